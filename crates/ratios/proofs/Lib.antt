@@ -1,0 +1,9 @@
+pub mod Euclid
+pub mod Over
+pub mod Parts
+pub mod Order
+pub mod Additive
+pub mod Scale
+pub mod SumLaws
+pub mod Range
+pub mod Sums
