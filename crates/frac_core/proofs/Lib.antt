@@ -1,0 +1,4 @@
+pub mod Reducing
+pub mod Numerals
+pub mod Forms
+pub mod RoundTrip

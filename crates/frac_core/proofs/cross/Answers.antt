@@ -1,0 +1,17 @@
+use Rattle.std.proofs.Common.{arith, pos}
+use Rattle.std.proofs.lemmas.Int.{ints}
+use Rattle.ratios.proofs.Parts.{parts_of}
+use Rattle.frac_core.proofs.Reducing.{product_exact, product_exact_small}
+use Rattle.frac_core.proofs.cross.Goals as goal
+
+pub returns-clause-value : goal.returns-clause-value
+returns-clause-value c =
+    let p = parts_of c.a.inside.num c.a.inside.den c.args.a c.a.invariant.0 c.a.view_is in
+    let q = parts_of c.b.inside.num c.b.inside.den c.args.b c.b.invariant.0 c.b.view_is in
+    product_exact c.from.result c.from-2.result c.args.a.num (pos c.args.b.den) (omega (arith, ints)) (omega (arith, ints)) (omega (arith, ints)) (omega (arith, ints))
+
+pub returns-clause-small : goal.returns-clause-small
+returns-clause-small c =
+    let p = parts_of c.a.inside.num c.a.inside.den c.args.a c.a.invariant.0 c.a.view_is in
+    let q = parts_of c.b.inside.num c.b.inside.den c.args.b c.b.invariant.0 c.b.view_is in
+    product_exact_small c.from.result c.from-2.result c.args.a.num (pos c.args.b.den) (omega (arith, ints)) (omega (arith, ints)) (omega (arith, ints)) (omega (arith, ints))
