@@ -1,0 +1,5 @@
+pub mod Causes
+pub mod Known
+pub mod Path
+pub mod Shelf
+pub mod Devices

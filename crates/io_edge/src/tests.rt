@@ -1,0 +1,95 @@
+ghost use Rattle.std.specs.Prelude.{◌^◌, ◌<◌, ◌≤◌, length};
+ghost use Rattle.io_edge.specs.Path.{IsPath};
+
+use crate::{
+    Failed, MemShelf, MemSink, MemSource, Noise, Shelf, ShelfFault, Sink, Source, StdSink,
+    StdSource, SureNoise, SureSink, SureSource,
+};
+use std::test::Fail;
+
+// Each call through its trait.
+fn read<S: Source>(source: &mut S, buf: &mut [u8]) -> Result<usize, Failed>
+    requires { 0 < length buf.old }
+{
+    source.read(buf)
+}
+
+fn write<S: Sink>(sink: &mut S, piece: &[u8]) -> Result<usize, Failed>
+    requires { 0 < length piece.now }
+{
+    sink.write(piece)
+}
+
+fn draw<N: Noise>(noise: &mut N, eps: u64) -> Result<i64, Failed>
+    requires low { 1 ≤ eps }
+    requires high { eps ≤ 1000000000 }
+{
+    noise.draw(eps)
+}
+
+fn fetch<S: Shelf>(
+    shelf: &mut S,
+    path: &[u8],
+    max: usize,
+    into: &mut Vec<u8>,
+) -> Result<(), ShelfFault>
+    requires path { IsPath path.now }
+    requires max { max < 2 ^ 40 }
+{
+    shelf.fetch(path, max, into)
+}
+
+#[test]
+fn source_gives_pieces_and_fails_at_the_listed_call(rt: HostRuntime) -> Result<(), Fail> {
+    let bytes = b"abc".to_vec(rt.alloc())?;
+    let mut source = MemSource::new(bytes, 2, [1].to_vec(rt.alloc())?);
+    let mut buf = [0; 4];
+    assert_eq!(rt; read(&mut source, &mut buf), Ok(2));
+    assert_eq!(rt; read(&mut source, &mut buf), Err(Failed));
+    assert_eq!(rt; buf, [97, 98, 0, 0]);
+    assert_eq!(rt; read(&mut source, &mut buf), Ok(1));
+    assert_eq!(rt; buf, [99, 98, 0, 0]);
+    assert_eq!(rt; read(&mut source, &mut buf), Ok(0));
+    Ok(())
+}
+
+#[test]
+fn sink_takes_pieces_and_fails_once_full(rt: HostRuntime) -> Result<(), Fail> {
+    let mut sink = MemSink::new(rt.alloc(), 3, 2, Vec::new(rt.alloc()))?;
+    assert_eq!(rt; write(&mut sink, b"abcd"), Ok(2));
+    assert_eq!(rt; write(&mut sink, b"cd"), Ok(1));
+    assert_eq!(rt; write(&mut sink, b"d"), Err(Failed));
+    assert_eq!(rt; sink.bytes(), b"abc".as_slice());
+    Ok(())
+}
+
+#[test]
+fn empty_shelf_misses_a_file(rt: HostRuntime) -> Result<(), Fail> {
+    let mut shelf = MemShelf::new(rt.alloc());
+    let mut into = b"old".to_vec(rt.alloc())?;
+    assert_eq!(rt;
+        fetch(&mut shelf, b"a", 10, &mut into),
+        Err(ShelfFault::Missing)
+    );
+    assert_eq!(rt; into.len(), 0);
+    Ok(())
+}
+
+#[test]
+fn sure_devices_never_fail(rt: HostRuntime) -> Result<(), Fail> {
+    let mut source = SureSource::new(b"abc".to_vec(rt.alloc())?);
+    let mut buf = [0; 2];
+    assert_eq!(rt; read(&mut source, &mut buf), Ok(2));
+    assert_eq!(rt; buf, [97, 98]);
+    assert_eq!(rt; write(&mut SureSink::new(), b"abc"), Ok(3));
+    assert_eq!(rt; draw(&mut SureNoise::new(), 1), Ok(0));
+    Ok(())
+}
+
+#[test]
+fn standard_streams_are_adapted(rt: HostRuntime) {
+    let mut source = StdSource::new(rt.stdin());
+    let mut buf = [0; 2];
+    assert!(rt; read(&mut source, &mut buf).is_ok());
+    assert_eq!(rt; write(&mut StdSink::new(rt.stdout()), b"\n"), Ok(1));
+}
