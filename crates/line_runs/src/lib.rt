@@ -1,0 +1,11 @@
+//! Lines of a byte stream, and runs of a machine that replies to lines.
+//!
+//! The definitions stand in `specs/`; the functions here hold no code, and their contracts are laws of the definitions.
+#![tactic(auto)]
+
+mod laws;
+
+pub use laws::{Machine, law_pieces, law_runs};
+
+#[cfg(test)]
+mod tests;
