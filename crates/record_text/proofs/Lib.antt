@@ -1,0 +1,5 @@
+pub mod Equality
+pub mod Rows
+mod Bytes
+mod Filling
+mod Numerals

@@ -1,0 +1,79 @@
+-- Fields that are numbers, or texts.
+use Rattle.std.proofs.Common.{◌≡◌, ℕ, ◌<◌, ◌≤◌, true, false, cond, List, [], ◌∷◌, length, drop, ℤ, pos, negsuc, Some, Result, Ok, Err, refl, ap, rules, arith, nat_le, ◌==◌, ltb-true, lt-ltb, le-leb, eqb-true, w64}
+use Rattle.std.specs.Prelude.{FitsSigned}
+use Rattle.std.specs.Char.{is_ascii_digit}
+use Rattle.std.specs.List.{list_all}
+use Rattle.std.specs.Result.{result_ok}
+use Rattle.std.specs.Str.{IsAscii, IsUtf8, is_utf8}
+use Rattle.std.specs.Str.Parse.{IsNumeral, ParsesSigned, digits_value, signed_digits_value, without_leading_sign}
+use Rattle.std.proofs.lemmas.Bool.Decides.{nat_tests}
+use Rattle.std.proofs.lemmas.Str.{IsUtf8-from_ascii, IsUtf8-from_is_utf8, is_utf8-from_IsUtf8}
+use Rattle.std.proofs.lemmas.Str.Ascii.{IsAscii-nil, IsAscii-cons}
+use Rattle.std.proofs.lemmas.Str.Parse.{IsNumeralModel, numerals_by_value}
+use Rattle.record_text.specs.FieldAtoms.{is_short_numeral, is_i64, int_of_field, text_of_field}
+use Rattle.record_text.specs.declared.atom.Atom.TheVariants.{Text}
+use Rattle.record_text.specs.declared.field.AtomFault.TheVariants as fault
+use Rattle.record_text.proofs.Bytes.{first_passes, second_passes, IsAscii-passed}
+
+-- ---- numbers
+
+-- the test of ASCII digits, in the words of `parse`
+ascii_digits : IsNumeralModel (λ digits. list_all is_ascii_digit digits ≡ true) (digits_value 10)
+ascii_digits = numerals_by_value (λ digits. list_all is_ascii_digit digits ≡ true) (search rules)
+
+IsNumeral-short : (digits : List ℕ) → is_short_numeral digits ≡ true → IsNumeral 10 digits
+IsNumeral-short digits short =
+    (ltb-true 0 (length digits) (first_passes _ (nat_le (length digits) 19) (first_passes _ (list_all is_ascii_digit digits) short)), ascii_digits.to digits (second_passes _ _ short))
+
+is_ascii_digit-small : (byte : ℕ) → is_ascii_digit byte ≡ true → byte < 128
+is_ascii_digit-small byte passed = grind (arith, nat_tests)
+
+-- a sign is ASCII
+IsAscii-signed : (field : List ℕ) → IsAscii (without_leading_sign field) → IsAscii field
+IsAscii-signed [] ascii = IsAscii-nil
+IsAscii-signed (byte ∷ bytes) ascii =
+    elim (byte == 45) as (λ minus. byte == 45 ≡ minus → IsAscii (cond minus bytes (drop (cond (byte == 43) 1 0) (byte ∷ bytes))) → IsAscii (byte ∷ bytes)) [
+      | true ↦ λ minus rest. let is : byte ≡ 45 = eqb-true byte 45 minus in IsAscii-cons byte bytes (omega arith) rest
+      | false ↦ λ minus. elim (byte == 43) as (λ plus. byte == 43 ≡ plus → IsAscii (drop (cond plus 1 0) (byte ∷ bytes)) → IsAscii (byte ∷ bytes)) [
+        | true ↦ λ plus rest. let is : byte ≡ 43 = eqb-true byte 43 plus in IsAscii-cons byte bytes (omega arith) rest
+        | false ↦ λ plus whole. whole
+      ] refl
+    ] refl ascii
+
+pub IsUtf8-numeral : (field : List ℕ) → is_short_numeral (without_leading_sign field) ≡ true → IsUtf8 field
+IsUtf8-numeral field short =
+    IsUtf8-from_ascii field (IsAscii-signed field (IsAscii-passed is_ascii_digit is_ascii_digit-small (without_leading_sign field) (second_passes _ _ short)))
+
+is_i64-fits : (z : ℤ) → FitsSigned w64 z → is_i64 z ≡ true
+is_i64-fits (pos n) held = lt-ltb _ _ held.sfits
+is_i64-fits (negsuc n) held = lt-ltb _ _ held.sfits
+
+fits-is_i64 : (z : ℤ) → is_i64 z ≡ true → FitsSigned w64 z
+fits-is_i64 (pos n) small = record { sfits = ltb-true _ _ small }
+fits-is_i64 (negsuc n) small = record { sfits = ltb-true _ _ small }
+
+-- what `parse` gives for such a field
+pub parsed : {E : Type 0} (field : List ℕ) (read : Result ℤ E) → is_short_numeral (without_leading_sign field) ≡ true
+    → ParsesSigned w64 10 field read → result_ok read ≡ int_of_field field
+parsed field (Ok z) short is = rw (short, is_i64-fits (signed_digits_value 10 field) is.0.1) (ap Some is.1)
+parsed field (Err e) short is =
+    let wide : is_i64 (signed_digits_value 10 field) ≡ false =
+    elim (is_i64 (signed_digits_value 10 field)) as (λ b. is_i64 (signed_digits_value 10 field) ≡ b → b ≡ false)
+    [ true ↦ λ small. absurd (is (IsNumeral-short _ short, fits-is_i64 _ small)) | false ↦ λ small. refl ] refl in
+    rw (short, wide) refl
+
+-- ---- texts
+
+pub text_of_field-broken : (field : List ℕ) → ¬ IsUtf8 field → text_of_field field ≡ Err fault.NotUtf8
+text_of_field-broken field broken =
+    let refused : is_utf8 field ≡ false =
+    elim (is_utf8 field) as (λ b. is_utf8 field ≡ b → b ≡ false) [ true ↦ λ e. absurd (broken (IsUtf8-from_is_utf8 field e)) | false ↦ λ e. refl ] refl in
+    rw refused refl
+
+pub text_of_field-long : (field : List ℕ) → IsUtf8 field → 255 < length field → text_of_field field ≡ Err fault.TextLong
+text_of_field-long field text long =
+    let over : nat_le (length field) 255 ≡ false = grind (arith, nat_tests) in
+    rw (is_utf8-from_IsUtf8 field text, over) refl
+
+pub text_of_field-short : (field : List ℕ) → IsUtf8 field → length field ≤ 255 → text_of_field field ≡ Ok (Text field)
+text_of_field-short field text short = rw (is_utf8-from_IsUtf8 field text, le-leb _ _ short) refl

@@ -1,0 +1,5 @@
+use Rattle.std.proofs.Common.{◌≡◌, take, drop, ◌++◌}
+use Rattle.record_text.proofs.name.cells_of.Given as goal
+
+abbrev pub invariant-loop-i : goal.invariant-loop-i
+invariant-loop-i l = l.cells ≡ take l.i l.text ++ drop l.i l.initial.cells

@@ -1,0 +1,9 @@
+pub mod Order
+pub mod OrderLaws
+pub mod KindLists
+pub mod Padded
+pub mod Names
+pub mod Held
+pub mod JsonRows
+pub mod FieldAtoms
+pub mod Laws
