@@ -1,0 +1,206 @@
+//! The tables of primitives.
+ghost use Rattle.std.specs.Prelude.{◌≡◌};
+ghost use Rattle.prim_table.specs.Tables.{names1, names2, names3, place_of, found};
+
+use record_text::Kind;
+
+/// A primitive of `N` arguments: its name, the kinds of its arguments, and the kind of its answer.
+#[derive(Clone, Copy, Debug)]
+pub struct PrimRow<const N: usize> {
+    pub name: &'static str,
+    pub args: [Kind; N],
+    pub result: Kind,
+}
+
+/// The primitives of one argument.
+pub const ONE: [PrimRow<1>; 6] = [
+    PrimRow {
+        name: "neg",
+        args: [Kind::Int],
+        result: Kind::Int,
+    },
+    PrimRow {
+        name: "abs",
+        args: [Kind::Int],
+        result: Kind::Int,
+    },
+    PrimRow {
+        name: "sign",
+        args: [Kind::Int],
+        result: Kind::Int,
+    },
+    PrimRow {
+        name: "not",
+        args: [Kind::Int],
+        result: Kind::Int,
+    },
+    PrimRow {
+        name: "len",
+        args: [Kind::Text],
+        result: Kind::Int,
+    },
+    PrimRow {
+        name: "int_of",
+        args: [Kind::Text],
+        result: Kind::Int,
+    },
+];
+
+/// The primitives of two arguments.
+pub const TWO: [PrimRow<2>; 18] = [
+    PrimRow {
+        name: "add",
+        args: [Kind::Int; 2],
+        result: Kind::Int,
+    },
+    PrimRow {
+        name: "sub",
+        args: [Kind::Int; 2],
+        result: Kind::Int,
+    },
+    PrimRow {
+        name: "mul",
+        args: [Kind::Int; 2],
+        result: Kind::Int,
+    },
+    PrimRow {
+        name: "div",
+        args: [Kind::Int; 2],
+        result: Kind::Int,
+    },
+    PrimRow {
+        name: "mod",
+        args: [Kind::Int; 2],
+        result: Kind::Int,
+    },
+    PrimRow {
+        name: "min",
+        args: [Kind::Int; 2],
+        result: Kind::Int,
+    },
+    PrimRow {
+        name: "max",
+        args: [Kind::Int; 2],
+        result: Kind::Int,
+    },
+    PrimRow {
+        name: "eq",
+        args: [Kind::Int; 2],
+        result: Kind::Int,
+    },
+    PrimRow {
+        name: "ne",
+        args: [Kind::Int; 2],
+        result: Kind::Int,
+    },
+    PrimRow {
+        name: "lt",
+        args: [Kind::Int; 2],
+        result: Kind::Int,
+    },
+    PrimRow {
+        name: "le",
+        args: [Kind::Int; 2],
+        result: Kind::Int,
+    },
+    PrimRow {
+        name: "gt",
+        args: [Kind::Int; 2],
+        result: Kind::Int,
+    },
+    PrimRow {
+        name: "ge",
+        args: [Kind::Int; 2],
+        result: Kind::Int,
+    },
+    PrimRow {
+        name: "and",
+        args: [Kind::Int; 2],
+        result: Kind::Int,
+    },
+    PrimRow {
+        name: "or",
+        args: [Kind::Int; 2],
+        result: Kind::Int,
+    },
+    PrimRow {
+        name: "text_eq",
+        args: [Kind::Text; 2],
+        result: Kind::Int,
+    },
+    PrimRow {
+        name: "text_lt",
+        args: [Kind::Text; 2],
+        result: Kind::Int,
+    },
+    PrimRow {
+        name: "starts",
+        args: [Kind::Text; 2],
+        result: Kind::Int,
+    },
+];
+
+/// The primitives of three arguments.
+pub const THREE: [PrimRow<3>; 2] = [
+    PrimRow {
+        name: "pick",
+        args: [Kind::Int; 3],
+        result: Kind::Int,
+    },
+    PrimRow {
+        name: "part",
+        args: [Kind::Text, Kind::Int, Kind::Int],
+        result: Kind::Text,
+    },
+];
+
+/// A primitive: its place in the table of its number of arguments.
+#[derive(Clone, Copy, Debug, PartialEq, Eq)]
+pub enum PrimId {
+    One(u8),
+    Two(u8),
+    Three(u8),
+}
+
+/// The primitive of a name, or `None` where no table has the name.
+pub fn find(name: &[u8]) -> Option<PrimId>
+    ensures { result ≡ found name.now }
+{
+    if let Some(at) = place_in_one(name) {
+        return Some(PrimId::One(at));
+    }
+    if let Some(at) = place_in_two(name) {
+        return Some(PrimId::Two(at));
+    }
+    match place_in_three(name) {
+        Some(at) => Some(PrimId::Three(at)),
+        None => None,
+    }
+}
+
+fn place_in_one(name: &[u8]) -> Option<u8>
+    ensures { result ≡ place_of names1 name.now }
+{
+    match ONE.iter().position(|row| row.name.as_bytes() == name) {
+        Some(at) => Some(at as u8),
+        None => None,
+    }
+}
+
+fn place_in_two(name: &[u8]) -> Option<u8>
+    ensures { result ≡ place_of names2 name.now }
+{
+    match TWO.iter().position(|row| row.name.as_bytes() == name) {
+        Some(at) => Some(at as u8),
+        None => None,
+    }
+}
+
+fn place_in_three(name: &[u8]) -> Option<u8>
+    ensures { result ≡ place_of names3 name.now }
+{
+    match THREE.iter().position(|row| row.name.as_bytes() == name) {
+        Some(at) => Some(at as u8),
+        None => None,
+    }
+}
