@@ -1,0 +1,5 @@
+pub mod Entries
+pub mod Kept
+pub mod Dataset
+pub mod Code
+pub mod Laws
