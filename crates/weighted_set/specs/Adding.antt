@@ -1,0 +1,28 @@
+-- What adding weights to a dataset answers.
+use Rattle.std.specs.Prelude.{◌≡◌, Bool, true, false, ◌⊎◌, List, Some, None}
+use Rattle.datasets.specs.Dataset.{Dataset, with_added, first_weight_out_of_range, first_negative}
+use Rattle.weighted_set.specs.declared.adding.AddFault.{AddFault}
+use Rattle.weighted_set.specs.declared.adding.AddFault.TheVariants.{Range, Negative, Memory}
+use Rattle.weighted_set.specs.declared.weighted.Change.{Change}
+use Rattle.weighted_set.specs.declared.weighted.Weighted.{Weighted}
+use Rattle.weighted_set.specs.Changes.{entries_of, IsChangeList}
+
+-- every weight is in range once it is added, one by one
+abbrev pub StaysInRange : Dataset → List Weighted → Type 0
+StaysInRange A added = first_weight_out_of_range A (entries_of added) ≡ None
+
+-- weights below 0 are allowed, or no added row ends below 0
+abbrev pub EndsAllowed : Dataset → List Weighted → Bool → Type 0
+EndsAllowed A added signed = (signed ≡ true) ⊎ (first_negative A (entries_of added) ≡ None)
+
+-- the weights can be added to A, and these changes do so
+pub record AreChangesOfAdding (A : Dataset) (added : List Weighted) (signed : Bool) (changes : List Change) : Type 0 where
+  pub in_range : StaysInRange A added
+  pub allowed : EndsAllowed A added signed
+  pub lead_there : IsChangeList changes A (with_added A (entries_of added))
+
+-- the first fault that adding the weights to A runs into; Memory is tied to nothing
+abbrev pub IsAddFault : Dataset → List Weighted → Bool → AddFault → Type 0
+IsAddFault A added signed (Range place) = first_weight_out_of_range A (entries_of added) ≡ Some place
+IsAddFault A added signed (Negative place) = StaysInRange A added × (signed ≡ false) × (first_negative A (entries_of added) ≡ Some place)
+IsAddFault A added signed Memory = Unit {0}

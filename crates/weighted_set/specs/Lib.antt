@@ -1,0 +1,4 @@
+pub mod Changes
+pub mod Adding
+pub mod Held
+pub mod Laws

@@ -1,0 +1,119 @@
+//! Rows with a committed and a pending weight each.
+ghost use Rattle.std.specs.Prelude.{◌≡◌, ◌<◌, ◌≤◌, IfOk, OnErr, OnOk, length, slice_get};
+ghost use Rattle.std.specs.Map.{lookup};
+ghost use Rattle.datasets.specs.Dataset.{at, rows, set_at};
+ghost use Rattle.datasets.specs.Entries.{is_zero as is_zero_ratio, row_count as row_count_of, same_row};
+ghost use Rattle.ratios.specs.Ratio.{zero_ratio};
+ghost use Rattle.weighted_set.specs.Held.{PutsAt, committed_of, pending_of};
+
+use crate::Memory;
+use frac_core::Frac;
+use record_text::Row;
+use std::collections::BTreeMap;
+
+/// The two weights of one row.
+#[derive(Clone, Copy, Debug)]
+pub struct Held {
+    pub committed: Frac,
+    pub pending: Frac,
+}
+
+/// Whether the weight is 0.
+pub fn is_zero(weight: Frac) -> bool
+    ensures { result ≡ is_zero_ratio weight }
+{
+    weight.numer() == 0
+}
+
+// How many rows have a weight because of this one.
+fn row_count(weight: Frac) -> usize
+    ensures value { result ≡ row_count_of weight }
+    ensures small { result ≤ 1 }
+{
+    if is_zero(weight) { 0 } else { 1 }
+}
+
+/// The weights of a row, 0 where it is absent.
+pub fn held_at(table: &BTreeMap<Row, Held>, row: &Row) -> Held
+    ensures committed { result.committed ≡ at (committed_of table.now.entries) row.now }
+    ensures pending { result.pending ≡ at (pending_of table.now.entries) row.now }
+{
+    match table.get(row) {
+        Some(held) => *held,
+        None => Held {
+            committed: Frac::zero(),
+            pending: Frac::zero(),
+        },
+    }
+}
+
+/// The row at a place among those with a committed weight, in row order, with that weight.
+pub fn entry_at(table: &BTreeMap<Row, Held>, place: usize) -> (&Row, Frac)
+    requires { place < length (rows (committed_of table.now.entries)) }
+    ensures { slice_get (committed_of table.now.entries).entries place ≡ Some (result.0.now, result.1) }
+{
+    let mut left = place;
+    for (row, held) in table {
+        if !is_zero(held.committed) {
+            if left == 0 {
+                return (row, held.committed);
+            }
+            left -= 1;
+        }
+    }
+    unreachable!()
+}
+
+/// Puts the weights of a row.
+pub fn put(table: &mut BTreeMap<Row, Held>, row: &Row, held: Held) -> Result<(), Memory>
+    ensures ok { OnOk result (PutsAt row.now held table.old.entries table.new.entries) }
+    ensures err { OnErr result (table.new.entries ≡ table.old.entries) }
+{
+    if let Some(there) = table.get_mut(row) {
+        *there = held;
+        return Ok(());
+    }
+    let copy = row.try_copy()?;
+    table.insert(copy, held)?;
+    Ok(())
+}
+
+// Makes `weight` both weights of a row, which is absent only where that is 0.
+fn settle(table: &mut BTreeMap<Row, Held>, row: &Row, weight: Frac)
+    requires { lookup (same_row row.now) table.old.entries ≡ None → weight ≡ zero_ratio }
+    ensures committed { committed_of table.new.entries ≡ set_at row.now weight (committed_of table.old.entries) }
+    ensures pending { pending_of table.new.entries ≡ set_at row.now weight (pending_of table.old.entries) }
+{
+    if is_zero(weight) {
+        let _ = table.remove(row);
+    } else if let Some(there) = table.get_mut(row) {
+        *there = Held {
+            committed: weight,
+            pending: weight,
+        };
+    }
+}
+
+/// Makes the pending weight of a row its committed one. Of how many rows have a committed weight, takes the
+/// number before and answers the number after.
+pub fn commit_row(table: &mut BTreeMap<Row, Held>, row: &Row, len: usize) -> usize
+    requires { len ≡ length (rows (committed_of table.old.entries)) }
+    ensures counted { result ≡ length (rows (committed_of table.new.entries)) }
+    ensures committed { let pending = at (pending_of table.old.entries) row.now in committed_of table.new.entries ≡ set_at row.now pending (committed_of table.old.entries) }
+    ensures pending { pending_of table.new.entries ≡ pending_of table.old.entries }
+{
+    // Tells that a table has room to count its rows.
+    let _room = table.len();
+    let held = held_at(table, row);
+    settle(table, row, held.pending);
+    len + row_count(held.pending) - row_count(held.committed)
+}
+
+/// Makes the committed weight of a row its pending one.
+pub fn abort_row(table: &mut BTreeMap<Row, Held>, row: &Row)
+    ensures committed { committed_of table.new.entries ≡ committed_of table.old.entries }
+    ensures pending { let committed = at (committed_of table.old.entries) row.now in pending_of table.new.entries ≡ set_at row.now committed (pending_of table.old.entries) }
+{
+    let held = held_at(table, row);
+    settle(table, row, held.committed);
+}

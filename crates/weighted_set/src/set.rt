@@ -1,0 +1,163 @@
+//! A set of rows with weights, which changes in two steps.
+ghost use Rattle.std.specs.Prelude.{◌≡◌, ◌<◌, IfErr, IfOk, OnErr, OnOk, length, slice_get};
+ghost use Rattle.datasets.specs.Dataset.{at as weight_at, empty, rows, set_at};
+ghost use Rattle.weighted_set.specs.Adding.{AreChangesOfAdding, IsAddFault};
+ghost use Rattle.weighted_set.specs.Changes.{AreChangesOf, applied};
+ghost use Rattle.weighted_set.specs.Held.{AllInRange};
+
+use crate::Memory;
+use crate::adding::{AddFault, add_all, changes_in, first_negative};
+use crate::held::{Held, abort_row, commit_row, entry_at, held_at, put};
+use crate::weighted::{Change, Weighted};
+use frac_core::Frac;
+use record_text::Row;
+use std::alloc::Global;
+use std::collections::BTreeMap;
+use std::marker::Model;
+
+/// A set of rows with weights other than 0. Its rows and weights are the committed ones; a list of changes
+/// is prepared first, and then committed or aborted.
+#[derive(Drop)]
+pub struct HeldSet {
+    // Each row that has a committed or a pending weight other than 0, or is touched.
+    table: BTreeMap<Row, Held>,
+    // The rows whose pending weight may differ from the committed one.
+    touched: Vec<Row>,
+    // How many rows have a committed weight other than 0.
+    len: usize,
+    alloc: Global,
+}
+
+impl Model for HeldSet {
+    ghost use Rattle.weighted_set.specs.Held.{HeldDatasets, IsSet, committed_of, held_datasets_code, pending_of};
+
+    ghost Value = { HeldDatasets };
+
+    ghost coded = { held_datasets_code };
+
+    ghost view = { λ s. record { committed = committed_of s.table.entries; pending = pending_of s.table.entries } };
+
+    ghost invariant = { λ s. IsSet s.table.entries s.touched.items s.len };
+}
+
+impl HeldSet {
+    /// A set with no rows.
+    pub fn new(alloc: Global) -> HeldSet
+        ensures committed { result.committed ≡ empty }
+        ensures pending { result.pending ≡ empty }
+    {
+        HeldSet {
+            table: BTreeMap::new(alloc),
+            touched: Vec::new(alloc),
+            len: 0,
+            alloc,
+        }
+    }
+
+    /// How many rows there are.
+    pub fn len(&self) -> usize
+        ensures { result ≡ length (rows self.now.committed) }
+    {
+        self.len
+    }
+
+    /// The weight of a row, 0 where it is absent.
+    pub fn weight(&self, row: &Row) -> Frac
+        ensures value { result ≡ weight_at self.now.committed row.now }
+        ensures in_range { AllInRange self.now.committed }
+    {
+        held_at(&self.table, row).committed
+    }
+
+    /// The row at a place, in row order from place 0 on, with its weight. It takes time in proportion to the place.
+    pub fn entry(&self, at: usize) -> (&Row, Frac)
+        requires { at < length (rows self.now.committed) }
+        ensures { slice_get self.now.committed.entries at ≡ Some (result.0.now, result.1) }
+    {
+        entry_at(&self.table, at)
+    }
+
+    /// The changes that adding weights one by one would make, in row order, without those of rows that end as
+    /// they began. `Range` names the first place whose row is out of range once its weight is added. Else, where
+    /// weights below 0 are not allowed, `Negative` names the first place whose row ends below 0.
+    pub fn changes_of(&self, added: &[Weighted], signed: bool) -> Result<Vec<Change>, AddFault>
+        requires { self.now.pending ≡ self.now.committed }
+        ensures ok { IfOk result (λ changes. AreChangesOfAdding self.now.committed added.now signed changes.items) }
+        ensures err { IfErr result (IsAddFault self.now.committed added.now signed) }
+    {
+        let running = add_all(self.alloc, self, added)?;
+        if !signed {
+            if let Some(at) = first_negative(self, &running, added) {
+                return Err(AddFault::Negative { at });
+            }
+        }
+        let changes = changes_in(self.alloc, running)?;
+        Ok(changes)
+    }
+
+    /// Makes the changes pending. After a refusal nothing is pending.
+    pub fn prepare(&mut self, changes: &[Change]) -> Result<(), Memory>
+        requires settled { self.old.pending ≡ self.old.committed }
+        requires changes { AreChangesOf changes.now self.old.committed }
+        ensures committed { self.new.committed ≡ self.old.committed }
+        ensures ok { OnOk result (self.new.pending ≡ applied self.old.committed changes.now) }
+        ensures err { OnErr result (self.new.pending ≡ self.old.pending) }
+    {
+        match self.put_all(changes) {
+            Ok(()) => Ok(()),
+            Err(fault) => {
+                self.abort();
+                Err(fault)
+            }
+        }
+    }
+
+    // The changes up to a refusal are pending.
+    fn put_all(&mut self, changes: &[Change]) -> Result<(), Memory>
+        requires { AreChangesOf changes.now self.old.committed }
+        ensures committed { self.new.committed ≡ self.old.committed }
+        ensures ok { OnOk result (self.new.pending ≡ applied self.old.pending changes.now) }
+    {
+        for change in changes {
+            self.put_change(change)?;
+        }
+        Ok(())
+    }
+
+    fn put_change(&mut self, change: &Change) -> Result<(), Memory>
+        requires { change.now.old ≡ weight_at self.old.committed change.now.row }
+        ensures committed { self.new.committed ≡ self.old.committed }
+        ensures ok { OnOk result (self.new.pending ≡ set_at change.now.row change.now.new self.old.pending) }
+    {
+        let note = change.row.try_copy()?;
+        self.touched.push(note)?;
+        // Tells that the weight is in range.
+        let _numerator = change.new.numer();
+        let held = Held {
+            committed: change.old,
+            pending: change.new,
+        };
+        put(&mut self.table, &change.row, held)?;
+        Ok(())
+    }
+
+    /// Makes the pending weights the committed ones.
+    pub fn commit(&mut self)
+        ensures committed { self.new.committed ≡ self.old.pending }
+        ensures pending { self.new.pending ≡ self.old.pending }
+    {
+        while let Some(row) = self.touched.pop() {
+            self.len = commit_row(&mut self.table, &row, self.len);
+        }
+    }
+
+    /// Makes the committed weights the pending ones.
+    pub fn abort(&mut self)
+        ensures committed { self.new.committed ≡ self.old.committed }
+        ensures pending { self.new.pending ≡ self.old.committed }
+    {
+        while let Some(row) = self.touched.pop() {
+            abort_row(&mut self.table, &row);
+        }
+    }
+}
