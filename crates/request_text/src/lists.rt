@@ -1,0 +1,136 @@
+//! The lists that requests and replies hold.
+ghost use Rattle.std.specs.Prelude.{◌≡◌, ℕ, List, IsUtf8, string_bytes};
+ghost use Rattle.ratios.specs.Ratio.{Ratio};
+ghost use Rattle.record_text.specs.declared.atom.Atom.{Atom};
+
+use frac_core::Frac;
+use record_text::Row;
+use std::marker::Model;
+
+/// Weights, in order.
+#[derive(Drop)]
+pub struct Weights {
+    list: Vec<Frac>,
+}
+
+impl Model for Weights {
+    ghost Value = { List Ratio };
+
+    ghost view = { λ weights. weights.list.items };
+}
+
+impl Weights {
+    /// The weights of this list.
+    pub fn from_vec(list: Vec<Frac>) -> Weights
+        ensures { result ≡ list.items }
+    {
+        Weights { list }
+    }
+
+    /// The weights, lent.
+    pub fn as_slice(&self) -> &[Frac]
+        ensures { result.now ≡ self.now }
+    {
+        self.list.as_slice()
+    }
+}
+
+/// Bytes, in order.
+#[derive(Drop)]
+pub struct Bytes {
+    list: Vec<u8>,
+}
+
+impl Model for Bytes {
+    ghost Value = { List ℕ };
+
+    ghost view = { λ bytes. bytes.list.items };
+}
+
+impl Bytes {
+    /// The bytes of this list.
+    pub fn from_vec(list: Vec<u8>) -> Bytes
+        ensures { result ≡ list.items }
+    {
+        Bytes { list }
+    }
+
+    /// The bytes, lent.
+    pub fn as_slice(&self) -> &[u8]
+        ensures { result.now ≡ self.now }
+    {
+        self.list.as_slice()
+    }
+}
+
+/// Rows, in order.
+#[derive(Drop)]
+pub struct Rows {
+    list: Vec<Row>,
+}
+
+impl Model for Rows {
+    ghost Value = { List (List Atom) };
+
+    ghost view = { λ rows. rows.list.items };
+}
+
+impl Rows {
+    /// The rows of this list.
+    pub fn from_vec(list: Vec<Row>) -> Rows
+        ensures { result ≡ list.items }
+    {
+        Rows { list }
+    }
+
+    /// The rows, lent.
+    pub fn as_slice(&self) -> &[Row]
+        ensures { result.now ≡ self.now }
+    {
+        self.list.as_slice()
+    }
+}
+
+/// The name of a field, as the bytes of a text.
+#[derive(Debug, Drop)]
+pub struct FieldText {
+    text: String,
+}
+
+impl Model for FieldText {
+    ghost Value = { List ℕ };
+
+    ghost view = { λ field. string_bytes field.text };
+}
+
+impl FieldText {
+    /// The name with these bytes, which have to be UTF-8.
+    pub fn from_vec(list: Vec<u8>) -> FieldText
+        requires { IsUtf8 list.items }
+        ensures { result ≡ list.items }
+    {
+        match String::from_utf8(list) {
+            Ok(text) => FieldText { text },
+            Err(_) => unreachable!(),
+        }
+    }
+
+    /// The bytes, lent.
+    pub fn as_slice(&self) -> &[u8]
+        ensures { result.now ≡ self.now }
+    {
+        self.text.as_bytes()
+    }
+
+    pub(crate) fn from_string(text: String) -> FieldText
+        ensures { result ≡ string_bytes text }
+    {
+        FieldText { text }
+    }
+
+    pub(crate) fn as_str(&self) -> &str
+        ensures { result.now ≡ self.now }
+    {
+        self.text.as_str()
+    }
+}

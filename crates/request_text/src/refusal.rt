@@ -1,0 +1,96 @@
+//! Why a request is refused.
+ghost use Rattle.std.specs.Prelude.{◌≡◌};
+ghost use Rattle.request_text.specs.declared.refusal.ReadFault.TheVariants as fault;
+
+use crate::csv_fault::CsvWhat;
+use crate::lists::FieldText;
+use frac_core::FracFault;
+use record_text::Name;
+/// There was no memory.
+pub use std::alloc::AllocError as Memory;
+use std::alloc::AllocFailed;
+use thiserror::Error;
+
+/// What a name names.
+#[derive(Clone, Copy, Debug, PartialEq, Eq)]
+pub enum Thing {
+    /// A source.
+    Source,
+}
+
+/// The first fault of a request. All places count from 0.
+#[derive(Debug, Drop, Error)]
+pub enum Refusal {
+    /// The line has over 1,048,576 bytes.
+    #[error("the line is too long")]
+    Line,
+    /// The line is no JSON, or nests deeper than 127.
+    #[error("the line is no JSON")]
+    Json,
+    /// The field is missing, is not as it must be, or is one that the request doesn't have.
+    #[error("the field {0} is not as it must be", field.as_str())]
+    Shape { field: FieldText },
+    /// The text at this place is no weight.
+    #[error("the weight at {at} is refused: {fault}")]
+    Weight { at: usize, fault: FracFault },
+    /// The text of this field is no name.
+    #[error("the field {0} is no name", field.as_str())]
+    Name { field: FieldText },
+    /// There is one of this name already.
+    #[error("the name {0} is taken", name.as_str())]
+    Exists { what: Thing, name: Name },
+    /// There is none of this name.
+    #[error("there is no {0}", name.as_str())]
+    Unknown { what: Thing, name: Name },
+    /// There are as many as there may be.
+    #[error("there is no room for another")]
+    Full { what: Thing },
+    /// Exact answers are the curator's alone.
+    #[error("exact answers are not open")]
+    Curator,
+    /// The record is not as the source's columns ask.
+    #[error("the record {at} is not as it must be")]
+    Csv { at: usize, what: CsvWhat },
+    /// The running weight of the record's row is out of range.
+    #[error("the weight of record {at} is out of range")]
+    RecordRange { at: usize },
+    /// The record's row ends below 0, where no weight may be negative.
+    #[error("the row of record {at} ends below 0")]
+    Negative { at: usize },
+    /// The row doesn't fit the columns.
+    #[error("the row {at} doesn't fit")]
+    Row { at: usize },
+    /// The row is one that came before.
+    #[error("the row {at} came before")]
+    Repeat { at: usize },
+    /// The running sum leaves the range of fractions at the weight of this place.
+    #[error("the sum is out of range at {at}")]
+    SumRange { at: usize },
+}
+
+/// Why no request was read.
+#[derive(Debug, Drop, Error)]
+pub enum ReadFault {
+    /// The line is refused.
+    #[error(transparent)]
+    Refused(Refusal),
+    /// There was no memory.
+    #[error("out of memory")]
+    Memory,
+}
+
+impl From<Memory> for ReadFault {
+    ghost from_gives = { λ _ e. e ≡ fault.Memory };
+
+    fn from(_e: Memory) -> ReadFault {
+        ReadFault::Memory
+    }
+}
+
+impl<T: Drop> From<AllocFailed<T>> for ReadFault {
+    ghost from_gives = { λ _ e. e ≡ fault.Memory };
+
+    fn from(_e: AllocFailed<T>) -> ReadFault {
+        ReadFault::Memory
+    }
+}
