@@ -1,0 +1,40 @@
+use Rattle.std.proofs.Common.{◌≡◌, ℕ, List, get_or, ap, arith}
+use Rattle.request_text.specs.Requests.{request_on}
+use Rattle.request_text.specs.Replies.{reply_line}
+use Rattle.request_text.specs.declared.refusal.Refusal.TheVariants as refusal
+use Rattle.request_text.specs.declared.write.Reply.{Reply}
+use Rattle.request_text.specs.declared.write.Reply.TheVariants as reply
+use Rattle.session_core.specs.Machine.{step, answered, memory_line}
+use Rattle.serde_json.proofs.OnLiterals.{serde_json_on_literals}
+use Rattle.session_core.proofs.laws.law_replies.Goals as goal
+
+-- the byte at this place of a text
+abbrev at : ℕ → List ℕ → ℕ
+at k text = get_or text k 0
+
+-- each reply differs from the memory line at some place
+apart : (r : Reply) → ¬ (reply_line r ≡ memory_line)
+unfolding reply_line serde_json_on_literals
+apart reply.Done e = let h : 116 ≡ 102 = ap (at 6) e in omega (arith, h)
+apart (reply.SumOf q) e = let h : 116 ≡ 102 = ap (at 6) e in omega (arith, h)
+apart (reply.Records count) e = let h : 116 ≡ 102 = ap (at 6) e in omega (arith, h)
+apart (reply.Weights qs) e = let h : 116 ≡ 102 = ap (at 6) e in omega (arith, h)
+apart (reply.Refused refusal.Line) e = let h : 108 ≡ 109 = ap (at 19) e in omega (arith, h)
+apart (reply.Refused refusal.Json) e = let h : 106 ≡ 109 = ap (at 19) e in omega (arith, h)
+apart (reply.Refused (refusal.Shape field)) e = let h : 102 ≡ 111 = ap (at 2) e in omega (arith, h)
+apart (reply.Refused (refusal.Weight place fault)) e = let h : 97 ≡ 111 = ap (at 2) e in omega (arith, h)
+apart (reply.Refused (refusal.Name field)) e = let h : 102 ≡ 111 = ap (at 2) e in omega (arith, h)
+apart (reply.Refused (refusal.Exists what name)) e = let h : 110 ≡ 111 = ap (at 2) e in omega (arith, h)
+apart (reply.Refused (refusal.Unknown what name)) e = let h : 110 ≡ 111 = ap (at 2) e in omega (arith, h)
+apart (reply.Refused (refusal.Full what)) e = let h : 97 ≡ 121 = ap (at 15) e in omega (arith, h)
+apart (reply.Refused refusal.Curator) e = let h : 99 ≡ 109 = ap (at 19) e in omega (arith, h)
+apart (reply.Refused (refusal.Csv place what)) e = let h : 114 ≡ 119 = ap (at 13) e in omega (arith, h)
+apart (reply.Refused (refusal.RecordRange place)) e = let h : 114 ≡ 119 = ap (at 13) e in omega (arith, h)
+apart (reply.Refused (refusal.Negative place)) e = let h : 114 ≡ 119 = ap (at 13) e in omega (arith, h)
+apart (reply.Refused (refusal.Row place)) e = let h : 114 ≡ 119 = ap (at 13) e in omega (arith, h)
+apart (reply.Refused (refusal.Repeat place)) e = let h : 114 ≡ 119 = ap (at 13) e in omega (arith, h)
+apart (reply.Refused (refusal.SumRange place)) e = let h : 97 ≡ 111 = ap (at 2) e in omega (arith, h)
+
+pub returns : goal.returns
+unfolding step
+returns c = λ state line. apart ((answered state (request_on line)).1)
