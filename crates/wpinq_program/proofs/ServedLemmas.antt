@@ -1,0 +1,200 @@
+-- What was served, over several lines.
+use Rattle.std.proofs.Common.{◌≡◌, ℤ, ℕ, Bool, true, false, List, [], ◌∷◌, ◌++◌, refl, ap, sym, ◌∙◌, append_assoc, append-nil, ◌<◌, ◌+◌, length, take, drop, length-append, arith, lit<, subst, inl, inr}
+use Rattle.std.specs.Prelude.{All, ◌≢◌, MatchBool, MatchResult, Result, Ok, Err, is_ok}
+use Rattle.std.proofs.lemmas.Grind.{flat_map-append}
+use Rattle.std.proofs.lemmas.List.{take_all, take-append-drop}
+use Rattle.std.proofs.Math.Seq.{take-append-add}
+use Rattle.io_edge.specs.declared.device.Failed.{Failed}
+use Rattle.io_edge.specs.Known.{Gains}
+use Rattle.io_edge.proofs.KnownLemmas.{Gains-none, Gains-append}
+use Rattle.line_runs.specs.Lines.{without_cr, whole_lines, open_line, last_line}
+use Rattle.line_runs.specs.Runs.{Run}
+use Rattle.line_runs.proofs.LineLemmas.{whole_lines-append, open_line-lf, without_cr-long}
+use Rattle.line_runs.proofs.RunLemmas.{Run-nil, Run-append, Run-silent_from, Run-one_from, Run-same}
+use Rattle.session_core.specs.Machine.{Answers}
+use Rattle.session_core.specs.State.{State}
+use Rattle.wpinq_program.specs.Served.{joined, IsProperFront, Moment, Served, ServedInPart}
+use Rattle.wpinq_program.proofs.Segments.{Segment, whole_lines-segment, whole_lines-rest, open_line-rest}
+use Rattle.wpinq_program.proofs.LineLemmas.{take-extend, kept_is_long, short_or_long, none_kept, some_kept}
+use Rattle.session_core.proofs.MachineLemmas.{Answers-overlong}
+
+pub Served-none : (m : Moment) → Served m m [] true
+Served-none m = record {
+  given = [];
+  replies = [];
+  text = [];
+  run = Run-nil Answers m.state;
+  drawn = Gains-none m.given;
+  count = omega arith;
+  put = Gains-none m.written;
+  whole = refl;
+}
+
+-- an empty line
+pub Served-empty : (m : Moment) → Served m m ([] ∷ []) true
+Served-empty m = record {
+  given = [];
+  replies = [];
+  text = [];
+  run = Run-silent_from Answers m.state m.state [] [] (refl, refl, refl);
+  drawn = Gains-none m.given;
+  count = omega arith;
+  put = Gains-none m.written;
+  whole = refl;
+}
+
+-- a proper front of what follows a whole text
+front_behind : (text more part : List ℕ) → IsProperFront part more → IsProperFront (text ++ part) (text ++ more)
+front_behind text more part f =
+    (length text + f.0, omega (arith, f.1, length-append text more), rw (f.2) (sym (take-append-add text more f.0)))
+
+whole_behind : (all : Bool) (text more part : List ℕ) → MatchBool all (part ≡ more) (IsProperFront part more)
+    → MatchBool all (text ++ part ≡ text ++ more) (IsProperFront (text ++ part) (text ++ more))
+whole_behind true text more part e = ap (λ l. text ++ l) e
+whole_behind false text more part f = front_behind text more part f
+
+pub Served-append : (a b c : Moment) (first second : List (List ℕ)) (all : Bool)
+    → Served a b first true → Served b c second all → Served a c (first ++ second) all
+Served-append a b c first second all p q = record {
+  given = p.given ++ q.given;
+  replies = p.replies ++ q.replies;
+  text = p.text ++ q.text;
+  run = Run-append Answers a.state b.state c.state first second p.given q.given p.replies q.replies p.run q.run;
+  drawn = Gains-append a.given b.given c.given p.given q.given p.drawn q.drawn;
+  count = omega (arith, p.count, q.count, length-append p.replies q.replies);
+  put = Gains-append a.written b.written c.written p.text q.text p.put q.put;
+  whole = rw (flat_map-append, ← p.whole) (whole_behind all p.text (joined q.replies) q.text q.whole);
+}
+
+pub ServedInPart-append : (a b c : Moment) (first second : List (List ℕ))
+    → Served a b first true → ServedInPart b c second → ServedInPart a c (first ++ second)
+ServedInPart-append a b c first second p q = record {
+  done = first ++ q.done;
+  rest = q.rest;
+  front = ap (λ lines. first ++ lines) q.front ∙ sym (append_assoc first q.done q.rest);
+  served = Served-append a b c first q.done false p q.served;
+}
+
+-- lines that were served in part, and others that follow them
+pub ServedInPart-more : (a b : Moment) (lines more : List (List ℕ)) → ServedInPart a b lines → ServedInPart a b (lines ++ more)
+ServedInPart-more a b lines more p = record {
+  done = p.done;
+  rest = p.rest ++ more;
+  front = ap (λ l. l ++ more) p.front ∙ append_assoc p.done p.rest more;
+  served = p.served;
+}
+
+pub ServedInPart-of : (a b : Moment) (lines : List (List ℕ)) → Served a b lines false → ServedInPart a b lines
+ServedInPart-of a b lines p = record { done = lines; rest = []; front = sym (append-nil lines); served = p }
+
+written_whole : (reply : List ℕ) (n : ℕ) (result : Result (Unit {0}) Failed)
+    → MatchResult result (λ _. n ≡ length reply) (λ _. n < length reply)
+    → MatchBool (is_ok result) (take n reply ≡ reply) (IsProperFront (take n reply) reply)
+written_whole reply n (Ok x) e = take_all n reply (omega (arith, e))
+written_whole reply n (Err x) e = (n, e, refl)
+
+-- one line that isn't empty
+pub Served-answered : (a b : Moment) (line : List ℕ) (given : List (ℕ × ℤ)) (reply : List ℕ) (n : ℕ) (result : Result (Unit {0}) Failed)
+    → 0 < length line → Answers a.state line given reply b.state → Gains a.given b.given given → b.lines ≡ a.lines + 1
+    → Gains a.written b.written (take n reply) → MatchResult result (λ _. n ≡ length reply) (λ _. n < length reply)
+    → Served a b (line ∷ []) (is_ok result)
+Served-answered a b line given reply n result some answered drawn count put whole = record {
+  given = given;
+  replies = reply ∷ [];
+  text = take n reply;
+  run = Run-one_from Answers a.state b.state line given (reply ∷ []) some (reply, refl, answered);
+  drawn = drawn;
+  count = omega (arith, count);
+  put = put;
+  whole = rw (append-nil) (written_whole reply n result whole);
+}
+
+-- ---- lines of which only the front is kept
+
+run_of_kept : (old new : State) (line : List ℕ) (given : List (ℕ × ℤ)) (replies : List (List ℕ))
+    → Run Answers old (without_cr (take 1048578 line) ∷ []) given replies new → Run Answers old (without_cr line ∷ []) given replies new
+run_of_kept old new line given replies run =
+    elim (short_or_long line) as (λ _. Run Answers old (without_cr line ∷ []) given replies new) [
+      | inl short ↦ subst (λ l. Run Answers old (without_cr l ∷ []) given replies new) (take_all 1048578 line short) run
+      | inr long ↦
+          let kept = kept_is_long line long in
+          let whole : 1048576 < length (without_cr line) = omega (arith, without_cr-long line, long) in
+          Run-same Answers old new (without_cr (take 1048578 line)) (without_cr line) given replies
+          (omega (arith, kept)) (omega (arith, whole))
+          (λ state noise reply next a. Answers-overlong state (without_cr (take 1048578 line)) (without_cr line) noise reply next kept whole a) run
+    ]
+
+-- a line was served where what is kept of it was
+pub Served-kept : (a b : Moment) (line kept : List ℕ) (all : Bool) → kept ≡ take 1048578 line
+    → Served a b (without_cr kept ∷ []) all → Served a b (without_cr line ∷ []) all
+Served-kept a b line kept all k s = record {
+  given = s.given;
+  replies = s.replies;
+  text = s.text;
+  run = run_of_kept a.state b.state line s.given s.replies (subst (λ l. Run Answers a.state (without_cr l ∷ []) s.given s.replies b.state) k s.run);
+  drawn = s.drawn;
+  count = s.count;
+  put = s.put;
+  whole = s.whole;
+}
+
+-- the last line: there is none, or it is served
+pub Served-no_last : (a : Moment) (line kept : List ℕ) → kept ≡ take 1048578 line → length kept ≡ 0 → Served a a (last_line line) true
+Served-no_last a line kept k none = rw (none_kept 1048578 line kept (lit< tt) k none) (Served-none a)
+
+last_of : (line : List ℕ) → 0 < length line → last_line line ≡ without_cr line ∷ []
+last_of [] some = absurd (omega arith)
+last_of (b ∷ line) some = refl
+
+pub Served-last : (a b : Moment) (line kept : List ℕ) (all : Bool) → kept ≡ take 1048578 line → 0 < length kept
+    → Served a b (without_cr kept ∷ []) all → Served a b (last_line line) all
+Served-last a b line kept all k some s =
+    rw (last_of line (some_kept 1048578 line kept k some)) (Served-kept a b line kept all k s)
+
+-- ---- the lines of a piece, where `line` is open before it and `begun` is what is kept of the open line
+
+kept_on : (line segment begun kept : List ℕ) → begun ≡ take 1048578 line → kept ≡ take 1048578 (begun ++ segment) → kept ≡ take 1048578 (line ++ segment)
+kept_on line segment begun kept k e = e ∙ ap (λ l. take 1048578 (l ++ segment)) k ∙ take-extend 1048578 line segment
+
+-- one more line of the piece
+pub Served-next : (a b c : Moment) (line piece begun kept : List ℕ) (start len : ℕ) (all : Bool) → Segment piece start len
+    → begun ≡ take 1048578 (open_line line (take start piece)) → kept ≡ take 1048578 (begun ++ take len (drop start piece))
+    → Served a b (whole_lines line (take start piece)) true → Served b c (without_cr kept ∷ []) all
+    → Served a c (whole_lines line (take (start + len + 1) piece)) all
+Served-next a b c line piece begun kept start len all s k e before now =
+    let front = take start piece in
+    let segment = take len (drop start piece) in
+    let one = Served-kept b c (open_line line front ++ segment) kept all (kept_on (open_line line front) segment begun kept k e) now in
+    rw (s.next, whole_lines-segment line front segment s.plain)
+    (Served-append a b c (whole_lines line front) (without_cr (open_line line front ++ segment) ∷ []) all before one)
+
+-- one more line of the piece, whose reply wasn't all written
+pub ServedInPart-next : (a b c : Moment) (line piece begun kept : List ℕ) (start len : ℕ) → Segment piece start len
+    → begun ≡ take 1048578 (open_line line (take start piece)) → kept ≡ take 1048578 (begun ++ take len (drop start piece))
+    → Served a b (whole_lines line (take start piece)) true → Served b c (without_cr kept ∷ []) false
+    → ServedInPart a c (whole_lines line piece)
+ServedInPart-next a b c line piece begun kept start len s k e before now =
+    let end = start + len + 1 in
+    let cut : whole_lines line piece ≡ whole_lines line (take end piece) ++ whole_lines (open_line line (take end piece)) (drop end piece) =
+    ap (whole_lines line) (sym (take-append-drop end piece)) ∙ whole_lines-append line (take end piece) (drop end piece) in
+    rw cut (ServedInPart-more a c (whole_lines line (take end piece)) (whole_lines (open_line line (take end piece)) (drop end piece))
+    (ServedInPart-of a c (whole_lines line (take end piece)) (Served-next a b c line piece begun kept start len false s k e before now)))
+
+-- the open line after one more line of the piece
+pub open_line-next : (line piece : List ℕ) (start len : ℕ) → Segment piece start len → open_line line (take (start + len + 1) piece) ≡ []
+open_line-next line piece start len s = ap (open_line line) s.next ∙ open_line-lf line (take start piece ++ take len (drop start piece))
+
+-- the rest of the piece has no LF
+pub Served-rest : (a b : Moment) (line piece : List ℕ) (start : ℕ) → All (λ byte. byte ≢ 10) (drop start piece)
+    → Served a b (whole_lines line (take start piece)) true → Served a b (whole_lines line piece) true
+Served-rest a b line piece start plain served =
+    let same : whole_lines line piece ≡ whole_lines line (take start piece) =
+    ap (whole_lines line) (sym (take-append-drop start piece)) ∙ whole_lines-rest line (take start piece) (drop start piece) plain in
+    rw same served
+
+pub kept-rest : (line piece begun kept : List ℕ) (start : ℕ) → All (λ byte. byte ≢ 10) (drop start piece)
+    → begun ≡ take 1048578 (open_line line (take start piece)) → kept ≡ take 1048578 (begun ++ drop start piece)
+    → kept ≡ take 1048578 (open_line line piece)
+kept-rest line piece begun kept start plain k e =
+    kept_on (open_line line (take start piece)) (drop start piece) begun kept k e
+    ∙ ap (take 1048578) (sym (open_line-rest line (take start piece) (drop start piece) plain) ∙ ap (open_line line) (take-append-drop start piece))

@@ -1,0 +1,40 @@
+-- What was answered and written between two moments.
+use Rattle.std.specs.Prelude.{◌≡◌, ℕ, ℤ, ◌+◌, ◌<◌, Bool, false, List, ◌++◌, length, take, Option, MatchBool}
+use Rattle.std.specs.List.{flat_map}
+use Rattle.io_edge.specs.Known.{Gains}
+use Rattle.line_runs.specs.Runs.{Run}
+use Rattle.session_core.specs.Machine.{Answers}
+use Rattle.session_core.specs.State.{State}
+
+-- the replies as one text
+abbrev pub joined : List (List ℕ) → List ℕ
+joined replies = flat_map (λ reply. reply) replies
+
+-- some of the text from its front, and not all of it
+abbrev pub IsProperFront : List ℕ → List ℕ → Type 0
+IsProperFront part text = (n : ℕ) × (n < length text) × (part ≡ take n text)
+
+-- the machine and what is known of its devices, at some moment
+pub record Moment : Type 0 where
+  pub state : State
+  pub lines : ℕ
+  pub written : Option (List ℕ)
+  pub given : Option (List (ℕ × ℤ))
+
+-- From old to new the machine ran over these lines, and what was written are its replies: all of them, or a proper front.
+pub record Served (old new : Moment) (lines : List (List ℕ)) (all : Bool) : Type 0 where
+  pub given : List (ℕ × ℤ)
+  pub replies : List (List ℕ)
+  pub text : List ℕ
+  pub run : Run Answers old.state lines given replies new.state
+  pub drawn : Gains old.given new.given given
+  pub count : new.lines ≡ old.lines + length replies
+  pub put : Gains old.written new.written text
+  pub whole : MatchBool all (text ≡ joined replies) (IsProperFront text (joined replies))
+
+-- the machine ran over some of the lines, from their front, and a proper front of its replies was written
+pub record ServedInPart (old new : Moment) (lines : List (List ℕ)) : Type 0 where
+  pub done : List (List ℕ)
+  pub rest : List (List ℕ)
+  pub front : lines ≡ done ++ rest
+  pub served : Served old new done false
