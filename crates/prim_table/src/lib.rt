@@ -12,4 +12,4 @@ mod tests;
 
 pub use apply::{apply1, apply2, apply3};
 pub use record_text::{Atom, Kind, Memory};
-pub use tables::{ONE, PrimId, PrimRow, THREE, TWO, find};
+pub use tables::{ONE, PrimId, PrimRow, THREE, TWO, find, row1, row2, row3};

@@ -1,6 +1,7 @@
 //! The tables of primitives.
-ghost use Rattle.std.specs.Prelude.{◌≡◌};
-ghost use Rattle.prim_table.specs.Tables.{names1, names2, names3, place_of, found};
+ghost use Rattle.std.specs.Prelude.{◌≡◌, IsTrue, Some, is_some};
+ghost use Rattle.prim_table.specs.Tables.{args1, args2, args3, found, names1, names2, names3, place_of, result3};
+ghost use Rattle.record_text.specs.declared.kinds.Kind.TheVariants as kind;
 
 use record_text::Kind;
 
@@ -153,6 +154,33 @@ pub const THREE: [PrimRow<3>; 2] = [
         result: Kind::Text,
     },
 ];
+
+/// The row of `ONE` at this place.
+pub fn row1(at: u8) -> PrimRow<1>
+    requires { IsTrue (is_some (args1 at)) }
+    ensures args { args1 at ≡ Some result.args }
+    ensures result { result.result ≡ kind.Int }
+{
+    ONE[at as usize]
+}
+
+/// The row of `TWO` at this place.
+pub fn row2(at: u8) -> PrimRow<2>
+    requires { IsTrue (is_some (args2 at)) }
+    ensures args { args2 at ≡ Some result.args }
+    ensures result { result.result ≡ kind.Int }
+{
+    TWO[at as usize]
+}
+
+/// The row of `THREE` at this place.
+pub fn row3(at: u8) -> PrimRow<3>
+    requires { IsTrue (is_some (args3 at)) }
+    ensures args { args3 at ≡ Some result.args }
+    ensures result { result3 at ≡ Some result.result }
+{
+    THREE[at as usize]
+}
 
 /// A primitive: its place in the table of its number of arguments.
 #[derive(Clone, Copy, Debug, PartialEq, Eq)]

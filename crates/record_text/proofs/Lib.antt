@@ -1,5 +1,5 @@
 pub mod Equality
+pub mod Numerals
 pub mod Rows
 mod Bytes
 mod Filling
-mod Numerals

@@ -1,16 +1,17 @@
 -- Fields that are numbers, or texts.
-use Rattle.std.proofs.Common.{◌≡◌, ℕ, ◌<◌, ◌≤◌, true, false, cond, List, [], ◌∷◌, length, drop, ℤ, pos, negsuc, Some, Result, Ok, Err, refl, ap, rules, arith, nat_le, ◌==◌, ltb-true, lt-ltb, le-leb, eqb-true, w64}
+use Rattle.std.proofs.Common.{◌≡◌, ℕ, ◌<◌, ◌≤◌, true, false, cond, List, [], ◌∷◌, length, drop, ℤ, pos, negsuc, Some, None, Result, Ok, Err, refl, ap, rules, arith, nat_le, nat_lt, ◌==◌, ltb-true, leb-true, lt-ltb, le-leb, eqb-true, w64}
 use Rattle.std.specs.Prelude.{FitsSigned}
 use Rattle.std.specs.Char.{is_ascii_digit}
 use Rattle.std.specs.List.{list_all}
 use Rattle.std.specs.Result.{result_ok}
 use Rattle.std.specs.Str.{IsAscii, IsUtf8, is_utf8}
 use Rattle.std.specs.Str.Parse.{IsNumeral, ParsesSigned, digits_value, signed_digits_value, without_leading_sign}
+use Rattle.std.proofs.lemmas.Bool.{and_from}
 use Rattle.std.proofs.lemmas.Bool.Decides.{nat_tests}
 use Rattle.std.proofs.lemmas.Str.{IsUtf8-from_ascii, IsUtf8-from_is_utf8, is_utf8-from_IsUtf8}
 use Rattle.std.proofs.lemmas.Str.Ascii.{IsAscii-nil, IsAscii-cons}
 use Rattle.std.proofs.lemmas.Str.Parse.{IsNumeralModel, numerals_by_value}
-use Rattle.record_text.specs.FieldAtoms.{is_short_numeral, is_i64, int_of_field, text_of_field}
+use Rattle.record_text.specs.FieldAtoms.{is_short_numeral, is_i64, is_int_field, int_of_field, text_of_field}
 use Rattle.record_text.specs.declared.atom.Atom.TheVariants.{Text}
 use Rattle.record_text.specs.declared.field.AtomFault.TheVariants as fault
 use Rattle.record_text.proofs.Bytes.{first_passes, second_passes, IsAscii-passed}
@@ -52,15 +53,24 @@ fits-is_i64 : (z : ℤ) → is_i64 z ≡ true → FitsSigned w64 z
 fits-is_i64 (pos n) small = record { sfits = ltb-true _ _ small }
 fits-is_i64 (negsuc n) small = record { sfits = ltb-true _ _ small }
 
--- what `parse` gives for such a field
-pub parsed : {E : Type 0} (field : List ℕ) (read : Result ℤ E) → is_short_numeral (without_leading_sign field) ≡ true
+short-IsNumeral : (digits : List ℕ) → IsNumeral 10 digits → length digits ≤ 19 → is_short_numeral digits ≡ true
+short-IsNumeral digits numeral few =
+    and_from _ _ (and_from _ _ (lt-ltb 0 (length digits) numeral.0) (le-leb _ _ few)) (ascii_digits.from digits numeral.1)
+
+pub short-length : (digits : List ℕ) → is_short_numeral digits ≡ true → length digits ≤ 19
+short-length digits short = leb-true _ _ (second_passes (nat_lt 0 (length digits)) _ (first_passes _ (list_all is_ascii_digit digits) short))
+
+-- what `parse` gives for a field of at most 19 digits
+pub parsed : {E : Type 0} (field : List ℕ) (read : Result ℤ E) → length (without_leading_sign field) ≤ 19
     → ParsesSigned w64 10 field read → result_ok read ≡ int_of_field field
-parsed field (Ok z) short is = rw (short, is_i64-fits (signed_digits_value 10 field) is.0.1) (ap Some is.1)
-parsed field (Err e) short is =
-    let wide : is_i64 (signed_digits_value 10 field) ≡ false =
-    elim (is_i64 (signed_digits_value 10 field)) as (λ b. is_i64 (signed_digits_value 10 field) ≡ b → b ≡ false)
-    [ true ↦ λ small. absurd (is (IsNumeral-short _ short, fits-is_i64 _ small)) | false ↦ λ small. refl ] refl in
-    rw (short, wide) refl
+parsed field (Ok z) few is =
+    let short : is_short_numeral (without_leading_sign field) ≡ true = short-IsNumeral _ is.0.0 few in
+    rw (short, is_i64-fits (signed_digits_value 10 field) is.0.1) (ap Some is.1)
+parsed field (Err e) few is =
+    elim (is_int_field field) as (λ b. is_int_field field ≡ b → None ≡ int_of_field field) [
+      | true ↦ λ held. absurd (is (IsNumeral-short _ (first_passes _ (is_i64 (signed_digits_value 10 field)) held), fits-is_i64 _ (second_passes _ _ held)))
+      | false ↦ λ none. rw none refl
+    ] refl
 
 -- ---- texts
 

@@ -32,7 +32,8 @@ impl Atom {
         }
     }
 
-    pub(crate) fn kind(&self) -> Kind
+    /// The kind of the atom.
+    pub fn kind(&self) -> Kind
         ensures { result ≡ kind_of self.now }
     {
         match self {
