@@ -7,3 +7,4 @@ pub mod Scale
 pub mod SumLaws
 pub mod Range
 pub mod Sums
+pub mod Products

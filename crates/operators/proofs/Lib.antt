@@ -1,0 +1,13 @@
+pub mod Gathered
+pub mod Tabulated
+pub mod Products
+pub mod Shares
+pub mod Order
+pub mod Signs
+pub mod Members
+pub mod Levels
+pub mod OutputRows
+pub mod OutputSigns
+pub mod Once
+pub mod SingleWeights
+pub mod LevelOrder

@@ -1,0 +1,4 @@
+pub mod Weights
+pub mod Operators
+pub mod InRange
+pub mod Laws
