@@ -1,0 +1,9 @@
+pub mod Terms
+mod Columns
+mod Names
+pub mod TypedValues
+pub mod StepByStep
+pub mod Accepted
+pub mod Reducers
+pub mod TypedSteps
+pub mod AcceptedTypes

@@ -1,0 +1,140 @@
+-- What each step of a plan makes of the sources.
+use Rattle.std.specs.Prelude.{ℕ, ◌+◌, pos, ℤ, ◌+ℤ◌, Bool, true, not, if◌then◌else◌, List, [], ◌∷◌, ◌++◌, flat_map, fold, length, map, replicate, slice_index_or, Option, Some, None, option_map}
+use Rattle.std.specs.Option.{unwrap_or}
+use Rattle.std.specs.Ordering.{int_eq, is_lt}
+use Rattle.ratios.specs.Ratio.{Ratio, ratio_add, ratio_sub}
+use Rattle.record_text.specs.declared.atom.Atom.{Atom}
+use Rattle.record_text.specs.declared.atom.Atom.TheVariants.{Int, Text}
+use Rattle.record_text.specs.Order.{atom_cmp}
+use Rattle.datasets.specs.Dataset.{Dataset, empty}
+use Rattle.datasets.specs.Entries.{Row}
+use Rattle.prim_table.specs.Primitives.{clamped}
+use Rattle.operators.specs.Weights.{ratio_max, ratio_min}
+use Rattle.operators.specs.Operators.{Giving, filtered, grouped, joined, pointwise, selected, shaved, spread}
+use Rattle.plan_model.specs.declared.expr.Expr.{Expr}
+use Rattle.plan_model.specs.declared.step.Item.{Item}
+use Rattle.plan_model.specs.declared.step.Reducer.{Reducer}
+use Rattle.plan_model.specs.declared.step.Run.{Run}
+use Rattle.plan_model.specs.declared.step.SetKind.{SetKind}
+use Rattle.plan_model.specs.declared.step.Step.{Step}
+use Rattle.plan_model.specs.declared.source_types.SourceType.{SourceType}
+use Rattle.plan_model.specs.Sources.{place_of}
+use Rattle.plan_model.specs.Values.{term_of, value_if}
+
+-- ---- the functions of rows that a step's parts stand for
+
+-- the value of an expression on a row over whose kinds it has a kind
+abbrev pub value : Expr → Row → Atom
+value e x = unwrap_or (value_if (term_of e) x) (Int (pos 0))
+
+-- the row of the values of expressions
+abbrev pub row_of : List Expr → Row → Row
+row_of es x = map (λ e. value e x) es
+
+-- any atom but the Int 0
+abbrev pub is_true_atom : Atom → Bool
+is_true_atom (Int a) = not (int_eq a (pos 0))
+is_true_atom (Text t) = true
+
+-- the test isn't 0 on the row
+abbrev pub passes : Expr → Row → Bool
+passes test x = is_true_atom (value test x)
+
+-- an item without a guard applies to every row
+abbrev pub guarded : Option Expr → Row → Bool
+guarded None x = true
+guarded (Some test) x = passes test x
+
+-- the items of a step, as functions of rows
+abbrev pub giving : List Item → List Giving
+giving items = map (λ i. record { weight = i.weight; applies = guarded i.guard; row = row_of i.row }) items
+
+-- the pieces of a step: its runs written out
+abbrev pub pieces : List Run → List Ratio
+pieces runs = flat_map (λ run. replicate run.times run.weight) runs
+
+-- what a set operator does with the two weights of a row
+abbrev pub set_weight : SetKind → Ratio → Ratio → Ratio
+set_weight SetKind.Union = ratio_max
+set_weight SetKind.Intersect = ratio_min
+set_weight SetKind.Concat = λ q r. ratio_add q r
+set_weight SetKind.Except = λ q r. ratio_sub q r
+
+-- ---- reducers
+
+-- the atom of a column
+abbrev pub column : ℕ → Row → Atom
+column c x = slice_index_or x c (Int (pos 0))
+
+-- the first of atoms, which are not none, that no other comes before
+abbrev pub least : List Atom → Atom
+least [] = Int (pos 0)
+least (a ∷ as') = fold (λ b c. if is_lt (atom_cmp c b) then c else b) a as'
+
+-- the first of atoms, which are not none, that comes before no other
+abbrev pub greatest : List Atom → Atom
+greatest [] = Int (pos 0)
+greatest (a ∷ as') = fold (λ b c. if is_lt (atom_cmp b c) then c else b) a as'
+
+-- the number that an Int atom is
+abbrev pub number_in : Atom → ℤ
+number_in (Int a) = a
+number_in (Text t) = pos 0
+
+-- the sum of Int atoms
+abbrev pub total : List Atom → ℤ
+total atoms = fold (λ sum a. sum +ℤ number_in a) (pos 0) atoms
+
+-- what a reducer makes of a set of rows: their number, the least or the greatest atom of a column, or its
+-- sum, the numbers clamped to those of an Int
+abbrev pub reduced_to : Reducer → List Row → Atom
+reduced_to Reducer.Count xs = Int (clamped (pos (length xs)))
+reduced_to (Reducer.Min c) xs = least (map (column c) xs)
+reduced_to (Reducer.Max c) xs = greatest (map (column c) xs)
+reduced_to (Reducer.Sum c) xs = Int (clamped (total (map (column c) xs)))
+
+-- ---- steps
+
+-- what f makes of each step and of what it made of the steps before, in the order of the steps
+abbrev pub step_by_step_after : {X : Type 0} → (Step → List X → X) → List X → List Step → List X
+step_by_step_after f made [] = made
+step_by_step_after f made (s ∷ ss) = step_by_step_after f (made ++ f s made ∷ []) ss
+
+abbrev pub step_by_step : {X : Type 0} → (Step → List X → X) → List Step → List X
+step_by_step f steps = step_by_step_after f [] steps
+
+-- a family: one dataset for each source, in the order of the sources
+abbrev pub Family : Type 0
+Family = List Dataset
+
+-- the dataset at a place
+abbrev pub dataset_at : List Dataset → ℕ → Dataset
+dataset_at As i = slice_index_or As i empty
+
+-- the dataset of a step: the family's at a source step, else the operator on those of the earlier steps
+abbrev pub eval_step : List SourceType → Family → Step → List Dataset → Dataset
+eval_step types F (Step.Source name) As = unwrap_or (option_map (dataset_at F) (place_of name types)) empty
+eval_step types F (Step.Filter of test) As = filtered (passes test) (dataset_at As of)
+eval_step types F (Step.Select of row) As = selected (row_of row) (dataset_at As of)
+eval_step types F (Step.Many of over items) As = spread over (giving items) (dataset_at As of)
+eval_step types F (Step.Shave of runs) As = shaved (pieces runs) (dataset_at As of)
+eval_step types F (Step.Set kind left right) As = pointwise (set_weight kind) (dataset_at As left) (dataset_at As right)
+eval_step types F (Step.Join left right left_key right_key) As = joined (row_of left_key) (row_of right_key) (dataset_at As left) (dataset_at As right)
+eval_step types F (Step.Group of key reduce) As = grouped (row_of key) (reduced_to reduce) (dataset_at As of)
+
+-- the datasets of all steps
+abbrev pub evals : List Step → List SourceType → Family → List Dataset
+evals p types F = step_by_step (eval_step types F) p
+
+-- the dataset of the step i
+abbrev pub eval_at : List Step → List SourceType → Family → ℕ → Dataset
+eval_at p types F i = dataset_at (evals p types F) i
+
+-- the last of a list, or what stands for it where the list is empty
+abbrev pub last_or : {X : Type 0} → X → List X → X
+last_or d [] = d
+last_or d (x ∷ xs) = last_or x xs
+
+-- the dataset of a plan: that of its last step
+abbrev pub eval : List Step → List SourceType → Family → Dataset
+eval p types F = last_or empty (evals p types F)

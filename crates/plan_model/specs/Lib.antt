@@ -1,0 +1,10 @@
+pub mod Values
+pub mod Pieces
+pub mod Limits
+pub mod Sources
+pub mod Evaluation
+pub mod Uses
+pub mod Fits
+pub mod Types
+pub mod Acceptance
+pub mod Laws
