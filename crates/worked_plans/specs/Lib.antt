@@ -1,0 +1,9 @@
+pub mod Weights
+pub mod Sources
+pub mod Joins
+pub mod Groups
+pub mod Pieces
+pub mod Sets
+pub mod Paths
+pub mod Items
+pub mod Accepted
