@@ -1,0 +1,112 @@
+-- The steps that the walk gives are within the limits of plans, and of the kinds that are read.
+use Rattle.std.proofs.Common.{◌≡◌, ℕ, ◌+◌, ◌<◌, ◌≤◌, nat_lt, codes, List, [], ◌∷◌, length, true, false, if◌then◌else◌, Option, Some, None, Ok, refl, arith, IsTrue}
+use Rattle.std.proofs.lemmas.Bool.{le-leb}
+use Rattle.std.proofs.lemmas.Option.{option_and_then_some}
+use Rattle.serde_json.specs.Data.{Data, Members}
+use Rattle.serde_json.specs.Find.{get, as_object}
+use Rattle.json_fields.specs.Walk.{each}
+use Rattle.plan_model.specs.declared.step.Step.{Step}
+use Rattle.plan_model.specs.declared.step.Step.TheVariants as step
+use Rattle.plan_model.specs.Limits.{is_step, are_steps, is_plan}
+use Rattle.plan_reader.specs.declared.fault.Field.TheVariants as field
+use Rattle.plan_reader.specs.declared.fault.Place.{Place}
+use Rattle.plan_reader.specs.declared.step.StepKind.{StepKind}
+use Rattle.plan_reader.specs.declared.step.StepKind.TheVariants as kind
+use Rattle.plan_reader.specs.Fields.{place, or_shape, no_other, name_in, of_in, earlier, whole_of}
+use Rattle.plan_reader.specs.Exprs.{expr_in, exprs_in}
+use Rattle.plan_reader.specs.Steps.{kind_of, step_fields, source_in, where_in, select_in, fields_in, step_in, is_built_step}
+use Rattle.plan_reader.specs.Plans.{is_built}
+use Rattle.plan_reader.proofs.Walks.{both_steps, length-each}
+use Rattle.plan_reader.proofs.WithinLimits.{is_expr-expr_in, are_exprs-exprs_in}
+
+-- ---- fields
+
+was_there : {A : Type 0} (p : Place) (found : Option A) (x : A) → or_shape p found ≡ Ok x → found ≡ Some x
+was_there p None x e = cc
+was_there p (Some y) x e = let same : y ≡ x = cc in rw same refl
+
+earlier_is_below : (at n k : ℕ) → earlier at n ≡ Some k → nat_lt k at ≡ true
+earlier_is_below at n k e =
+    elim (nat_lt n at) as (λ b. nat_lt n at ≡ b → (if b then Some n else None) ≡ Some k → nat_lt k at ≡ true) [
+      | true ↦ λ below same. let one : n ≡ k = cc in rw (← one) below
+      | false ↦ λ not same. cc
+    ] refl e
+
+of_is_below : (at : ℕ) (d : Data) (k : ℕ) → of_in at d ≡ Ok k → nat_lt k at ≡ true
+of_is_below at d k e =
+    option_and_then_some (earlier at) (whole_of (codes "of") d) k (was_there (place at field.Of) _ k e) (λ n is below. earlier_is_below at n k below)
+
+-- ---- one step
+
+-- within the limits of a step at this place, and of a kind that is read
+pub record IsGood (at : ℕ) (s : Step) : Type 0 where
+  pub limits : is_step at s ≡ true
+  pub built : is_built_step s ≡ true
+
+good-source_in : (at : ℕ) (d : Data) (ms : Members) (s : Step) → source_in at d ms ≡ Ok s → IsGood at s
+unfolding source_in
+good-source_in at d ms s e =
+    let name = both_steps (name_in at d) _ s e in
+    let known = both_steps (no_other at (step_fields kind.Source) ms) _ s name.2 in
+    let same : step.Source name.0 ≡ s = (let last = known.2 in cc) in
+    rw (← same) (record { limits = refl; built = refl })
+
+good-where_in : (at : ℕ) (d : Data) (ms : Members) (s : Step) → where_in at d ms ≡ Ok s → IsGood at s
+unfolding where_in
+good-where_in at d ms s e =
+    let from = both_steps (of_in at d) _ s e in
+    let found = both_steps (or_shape (place at field.If) (get (codes "if") d)) _ s from.2 in
+    let test = both_steps (expr_in (place at field.If) found.0) _ s found.2 in
+    let known = both_steps (no_other at (step_fields kind.Where) ms) _ s test.2 in
+    let same : step.Filter from.0 test.0 ≡ s = (let last = known.2 in cc) in
+    rw (← same) (record {
+      limits = rw (of_is_below at d from.0 from.1, is_expr-expr_in (place at field.If) found.0 test.0 test.1) refl;
+      built = refl;
+    })
+
+good-select_in : (at : ℕ) (d : Data) (ms : Members) (s : Step) → select_in at d ms ≡ Ok s → IsGood at s
+unfolding select_in
+good-select_in at d ms s e =
+    let from = both_steps (of_in at d) _ s e in
+    let row = both_steps (exprs_in (place at field.Row) (get (codes "row") d)) _ s from.2 in
+    let known = both_steps (no_other at (step_fields kind.Select) ms) _ s row.2 in
+    let same : step.Select from.0 row.0 ≡ s = (let last = known.2 in cc) in
+    rw (← same) (record {
+      limits = rw (of_is_below at d from.0 from.1, are_exprs-exprs_in (place at field.Row) (get (codes "row") d) row.0 row.1) refl;
+      built = refl;
+    })
+
+good-fields_in : (at : ℕ) (d : Data) (ms : Members) (k : StepKind) (s : Step) → fields_in at d ms k ≡ Ok s → IsGood at s
+good-fields_in at d ms kind.Source s e = good-source_in at d ms s e
+good-fields_in at d ms kind.Where s e = good-where_in at d ms s e
+good-fields_in at d ms kind.Select s e = good-select_in at d ms s e
+
+good-step_in : (at : ℕ) (d : Data) (s : Step) → step_in at d ≡ Ok s → IsGood at s
+unfolding step_in
+good-step_in at d s e =
+    let members = both_steps (or_shape (place at field.Step) (as_object d)) _ s e in
+    let k = both_steps (or_shape (place at field.Do) (kind_of d)) _ s members.2 in
+    good-fields_in at d members.0 k.0 s k.2
+
+-- ---- all steps
+
+pub are_steps-each : (at : ℕ) (ds : List Data) (ss : List Step) → each step_in at ds ≡ Ok ss → are_steps at ss ≡ true
+are_steps-each at [] ss e = let none : [] ≡ ss = cc in rw (← none) refl
+are_steps-each at (d ∷ ds) ss e =
+    let first = both_steps (step_in at d) _ ss e in
+    let rest = both_steps (each step_in (at + 1) ds) _ ss first.2 in
+    let is : first.0 ∷ rest.0 ≡ ss = (let last = rest.2 in cc) in
+    rw (← is, (good-step_in at d first.0 first.1).limits, are_steps-each (at + 1) ds rest.0 rest.1) refl
+
+pub is_built-each : (at : ℕ) (ds : List Data) (ss : List Step) → each step_in at ds ≡ Ok ss → is_built ss ≡ true
+is_built-each at [] ss e = let none : [] ≡ ss = cc in rw (← none) refl
+is_built-each at (d ∷ ds) ss e =
+    let first = both_steps (step_in at d) _ ss e in
+    let rest = both_steps (each step_in (at + 1) ds) _ ss first.2 in
+    let is : first.0 ∷ rest.0 ≡ ss = (let last = rest.2 in cc) in
+    rw (← is, (good-step_in at d first.0 first.1).built, is_built-each (at + 1) ds rest.0 rest.1) refl
+
+-- 1 to 64 values that are walked as steps give a plan
+pub is_plan-each : (ds : List Data) (ss : List Step) → 0 < length ds → length ds ≤ 64 → each step_in 0 ds ≡ Ok ss → IsTrue (is_plan ss)
+is_plan-each ds ss some most e =
+    rw (length-each step_in 0 ds ss e, le-leb 1 (length ds) (omega arith), le-leb (length ds) 64 most, are_steps-each 0 ds ss e) refl

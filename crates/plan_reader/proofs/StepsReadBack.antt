@@ -1,0 +1,106 @@
+-- Lists of expressions, steps and plans that are written read back.
+use Rattle.std.proofs.Common.{◌≡◌, ℕ, zero, suc, ◌+◌, ◌-◌, ◌<◌, ◌≤◌, ◌&&◌, nat_lt, nat_le, true, List, [], ◌∷◌, length, Some, Ok, refl, arith, lt-ltb, le-leb}
+use Rattle.std.specs.Prelude.{slice_get}
+use Rattle.std.proofs.lemmas.Bool.{and_parts, leb-true}
+use Rattle.serde_json.specs.Data.{Data, array}
+use Rattle.serde_json.specs.View.{items_of}
+use Rattle.json_fields.proofs.Members.{data_list-items_of}
+use Rattle.json_fields.specs.Walk.{each}
+use Rattle.record_text.specs.Names.{is_name}
+use Rattle.plan_model.specs.declared.expr.Expr.{Expr}
+use Rattle.plan_model.specs.declared.step.Step.{Step}
+use Rattle.plan_model.specs.declared.step.Step.TheVariants as step
+use Rattle.plan_model.specs.Limits.{depth, node_count, is_expr, are_exprs, is_step, are_steps, is_plan}
+use Rattle.plan_model.specs.Values.{term_of, has_places}
+use Rattle.plan_reader.specs.declared.fault.Field.TheVariants as field
+use Rattle.plan_reader.specs.declared.fault.Place.{Place}
+use Rattle.plan_reader.specs.Exprs.{expr_in, member_in}
+use Rattle.plan_reader.specs.Fields.{place}
+use Rattle.plan_reader.specs.Plans.{plan_walk, is_built}
+use Rattle.plan_reader.specs.Steps.{source_in, where_in, select_in, step_in, is_built_step}
+use Rattle.plan_reader.specs.Written.{ReadsAs, ListReadsAs, StepReadsAs, source_data, where_data, select_data, plan_data}
+use Rattle.plan_reader.proofs.Walks.{length-each}
+
+-- ---- expressions and lists of them
+
+pub has_places-is_expr : (e : Expr) → is_expr e ≡ true → has_places (term_of e) ≡ true
+has_places-is_expr e h = (and_parts (nat_le (depth (term_of e)) 16 && nat_le (node_count (term_of e)) 256) (has_places (term_of e)) h).1
+
+pub reads-expr_in : (place : Place) (e : Expr) (d : Data) → is_expr e ≡ true → ReadsAs e d → expr_in place d ≡ Ok e
+reads-expr_in place e d h reads =
+    let parts = and_parts (nat_le (depth (term_of e)) 16 && nat_le (node_count (term_of e)) 256) (has_places (term_of e)) h in
+    let limits = and_parts (nat_le (depth (term_of e)) 16) (nat_le (node_count (term_of e)) 256) parts.0 in
+    let few : node_count (term_of e) ≤ 256 = leb-true (node_count (term_of e)) 256 limits.1 in
+    let full : node_count (term_of e) + (256 - node_count (term_of e)) ≡ 256 = omega arith in
+    let walked = (rw full at (reads place 16 (256 - node_count (term_of e)) (leb-true (depth (term_of e)) 16 limits.0))) in
+    rw walked refl
+
+pub is_expr-at : (es : List Expr) (i : ℕ) (e : Expr) → are_exprs es ≡ true → slice_get es i ≡ Some e → is_expr e ≡ true
+is_expr-at [] i e all is = cc
+is_expr-at (x ∷ es) zero e all is =
+    let same : x ≡ e = cc in rw (← same) (and_parts (is_expr x) (are_exprs es) all).0
+is_expr-at (x ∷ es) (suc i) e all is = is_expr-at es i e (and_parts (is_expr x) (are_exprs es) all).1 is
+
+-- 1 to 16 values, each of which is walked as an expression
+pub reads-list : (es : List Expr) (ds : List Data) → 0 < length es → length es ≤ 16 → ((place : Place) → each (member_in place) 0 ds ≡ Ok es) →
+    ListReadsAs es (array (items_of ds))
+reads-list es ds some few read place =
+    let len : length es ≡ length ds = length-each (member_in place) 0 ds es (read place) in
+    rw (data_list-items_of ds, lt-ltb 0 (length ds) (omega arith), le-leb (length ds) 16 (omega arith), read place) refl
+
+-- ---- steps
+
+pub reads-source : (name : List ℕ) → is_name name ≡ true → StepReadsAs (step.Source name) (source_data name)
+unfolding step_in source_in
+reads-source name h at placed = rw h refl
+
+pub reads-where : (from : ℕ) (test : Expr) (d : Data) → ReadsAs test d → StepReadsAs (step.Filter from test) (where_data from d)
+unfolding step_in where_in
+reads-where from test d reads at placed =
+    let parts = and_parts (nat_lt from at) (is_expr test) placed in
+    rw (parts.0, reads-expr_in (place at field.If) test d parts.1 reads) refl
+
+pub reads-select : (from : ℕ) (row : List Expr) (d : Data) → ListReadsAs row d → StepReadsAs (step.Select from row) (select_data from d)
+unfolding step_in select_in
+reads-select from row d reads at placed =
+    let parts = and_parts (nat_lt from at) (are_exprs row) placed in
+    rw (parts.0, reads (place at field.Row)) refl
+
+-- ---- plans
+
+is_step-from : (from : ℕ) (ss : List Step) (i : ℕ) (s : Step) → are_steps from ss ≡ true → slice_get ss i ≡ Some s → is_step (from + i) s ≡ true
+is_step-from from [] i s all is = cc
+is_step-from from (x ∷ ss) zero s all is =
+    let same : x ≡ s = cc in
+    let here : from + 0 ≡ from = omega arith in
+    rw (← same, here) (and_parts (is_step from x) (are_steps (from + 1) ss) all).0
+is_step-from from (x ∷ ss) (suc i) s all is =
+    let next : from + suc i ≡ from + 1 + i = omega arith in
+    rw next (is_step-from (from + 1) ss i s (and_parts (is_step from x) (are_steps (from + 1) ss) all).1 is)
+
+-- the parts of what a plan is: at least one step, at most 64, and each within the limits
+plan_parts : (ss : List Step) → is_plan ss ≡ true → (nat_le 1 (length ss) ≡ true) × (nat_le (length ss) 64 ≡ true) × (are_steps 0 ss ≡ true)
+plan_parts ss h =
+    let all = and_parts (nat_le 1 (length ss) && nat_le (length ss) 64) (are_steps 0 ss) h in
+    let sizes = and_parts (nat_le 1 (length ss)) (nat_le (length ss) 64) all.0 in
+    (sizes.0, sizes.1, all.1)
+
+pub is_step-at : (ss : List Step) (i : ℕ) (s : Step) → is_plan ss ≡ true → slice_get ss i ≡ Some s → is_step i s ≡ true
+is_step-at ss i s h is =
+    let here : 0 + i ≡ i = omega arith in
+    rw here at (is_step-from 0 ss i s (plan_parts ss h).2 is)
+
+pub is_built-at : (ss : List Step) (i : ℕ) (s : Step) → is_built ss ≡ true → slice_get ss i ≡ Some s → is_built_step s ≡ true
+is_built-at [] i s all is = cc
+is_built-at (x ∷ ss) zero s all is =
+    let same : x ≡ s = cc in rw (← same) (and_parts (is_built_step x) (is_built ss) all).0
+is_built-at (x ∷ ss) (suc i) s all is = is_built-at ss i s (and_parts (is_built_step x) (is_built ss) all).1 is
+
+pub reads-plan : (ss : List Step) (ds : List Data) → is_plan ss ≡ true → each step_in 0 ds ≡ Ok ss → plan_walk (plan_data ds) ≡ Ok ss
+unfolding plan_walk
+reads-plan ss ds h read =
+    let parts = plan_parts ss h in
+    let some : 1 ≤ length ss = leb-true 1 (length ss) parts.0 in
+    let few : length ss ≤ 64 = leb-true (length ss) 64 parts.1 in
+    let len : length ss ≡ length ds = length-each step_in 0 ds ss read in
+    rw (data_list-items_of ds, lt-ltb 0 (length ds) (omega arith), le-leb (length ds) 64 (omega arith), read) refl

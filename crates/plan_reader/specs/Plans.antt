@@ -1,0 +1,36 @@
+-- The plan that a value denotes, or the first fault of its walk.
+use Rattle.std.specs.Prelude.{ℕ, nat_le, List, [], ◌∷◌, length, Bool, codes, if◌then◌else◌, Result, Ok}
+use Rattle.std.specs.List.{list_all}
+use Rattle.serde_json.specs.Data.{Data}
+use Rattle.serde_json.specs.Find.{get, as_object}
+use Rattle.json_fields.specs.Walk.{◌>>=◌, each}
+use Rattle.plan_model.specs.declared.step.Step.{Step}
+use Rattle.plan_reader.specs.declared.fault.Field.TheVariants as field
+use Rattle.plan_reader.specs.declared.fault.Limit.TheVariants as limit
+use Rattle.plan_reader.specs.declared.fault.PlanText.{PlanText}
+use Rattle.plan_reader.specs.Gives.{over}
+use Rattle.plan_reader.specs.Fields.{place, or_shape, no_other, format_in, list_in}
+use Rattle.plan_reader.specs.Steps.{step_in, is_built_step}
+
+-- at most 64 steps
+abbrev pub few : List Data → Result (List Data) PlanText
+few ds = if nat_le (length ds) 64 then Ok ds else over 64 limit.Steps
+
+-- the fields of a plan
+abbrev pub plan_fields : List (List ℕ)
+plan_fields = codes "format" ∷ codes "steps" ∷ []
+
+-- the steps of the plan that a value denotes: the fields in their order, a field that a plan doesn't have, too
+-- many steps, and then step by step
+unfoldable pub plan_walk : Data → Result (List Step) PlanText
+plan_walk d = do
+  ms ← or_shape (place 0 field.Plan) (as_object d)
+  format ← format_in d
+  ds ← list_in (place 0 field.Steps) (get (codes "steps") d)
+  known ← no_other 0 plan_fields ms
+  members ← few ds
+  each step_in 0 members
+
+-- each step is of a kind that is read and written
+abbrev pub is_built : List Step → Bool
+is_built steps = list_all is_built_step steps

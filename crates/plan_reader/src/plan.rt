@@ -1,0 +1,57 @@
+//! From a value to a plan.
+ghost use Rattle.std.specs.Prelude.{◌≡◌, ◌≤◌, ◌<◌, IfOk, IsTrue, length, map};
+ghost use Rattle.serde_json.specs.View.{view};
+ghost use Rattle.json_fields.specs.Walk.{each};
+ghost use Rattle.plan_reader.specs.Gives.{Gives, GivesBy};
+ghost use Rattle.plan_reader.specs.Steps.{step_in};
+ghost use Rattle.plan_reader.specs.Plans.{is_built, plan_walk};
+
+use crate::fault::{Field, Limit, Place, PlanText, over, shape};
+use crate::fields::{format, list, only_known};
+use crate::step::step;
+use plan_model::{Plan, Step};
+use serde_json::Value;
+use std::alloc::Global;
+
+/// The most steps of a plan.
+const MAX_STEPS: usize = 64;
+
+/// The plan that a value denotes, or the first fault of its walk. `Memory` may come in place of any answer.
+/// The steps that can be read so far are `source`, `where` and `select`.
+#[tactic(auto, unfolding(crate::specs::Plans::plan_walk))]
+pub fn read_plan(alloc: Global, value: &Value) -> Result<Plan, PlanText>
+    ensures value { Gives result (plan_walk (view value.now)) }
+    ensures built { IfOk result (λ plan. IsTrue (is_built plan)) }
+{
+    let Some(members) = value.as_object() else {
+        return shape(Place {
+            step: 0,
+            field: Field::Plan,
+        });
+    };
+    format(value)?;
+    let list = list(
+        Place {
+            step: 0,
+            field: Field::Steps,
+        },
+        value.get("steps"),
+    )?;
+    only_known(0, members, &["format", "steps"])?;
+    if list.len() > MAX_STEPS {
+        return over(MAX_STEPS, Limit::Steps);
+    }
+    let steps = steps(alloc, list)?;
+    Ok(Plan::from_steps(steps))
+}
+
+// The steps of these values.
+fn steps(alloc: Global, list: &[Value]) -> Result<Vec<Step>, PlanText>
+    ensures { GivesBy (λ steps. steps.items) result (each step_in 0 (map view list.now)) }
+{
+    let mut steps = Vec::with_capacity(alloc, list.len())?;
+    for (at, value) in list.iter().enumerate() {
+        steps.push(step(alloc, at, value)?)?;
+    }
+    Ok(steps)
+}
