@@ -1,0 +1,5 @@
+pub mod Members
+pub mod Positions
+pub mod Parts
+pub mod Rows
+pub mod Reached

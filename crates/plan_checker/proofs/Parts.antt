@@ -1,0 +1,93 @@
+-- The parts of steps that are those of a plan, and of steps that pass their checks.
+use Rattle.std.specs.Prelude.{◌≡◌, ℕ, zero, suc, ◌+◌, ◌<◌, nat_le, Bool, true, List, [], ◌∷◌, ◌++◌, length, slice_get, Some, None, option_to_list}
+use Rattle.std.specs.List.{list_all}
+use Rattle.std.proofs.Common.{refl, sym, ◌∙◌, subst, arith}
+use Rattle.std.proofs.lemmas.Bool.{and_from, and_parts, leb-true}
+use Rattle.std.proofs.lemmas.List.Folds.{list_all-append}
+use Rattle.record_text.specs.declared.kinds.Kind.{Kind}
+use Rattle.plan_model.specs.declared.expr.Expr.{Expr}
+use Rattle.plan_model.specs.declared.source_types.SourceType.{SourceType}
+use Rattle.plan_model.specs.declared.step.Item.{Item}
+use Rattle.plan_model.specs.declared.step.Step.{Step}
+use Rattle.plan_model.specs.Acceptance.{have_columns, is_narrow, item_exprs, knows_source, may_group, step_has_columns, step_has_kinds}
+use Rattle.plan_model.specs.Limits.{are_exprs, are_steps, is_guard, is_item, is_plan, is_step}
+use Rattle.plan_model.specs.Values.{has_columns, term_of}
+use Rattle.plan_model.proofs.Accepted.{passed}
+use Rattle.plan_checker.specs.Steps.{are_few, first_fault}
+use Rattle.plan_checker.proofs.Members.{list_all-flat_map, passes_at}
+
+-- ---- items
+
+pub exprs-item : (items : List Item) (k : ℕ) (item : Item) → slice_get items k ≡ Some item → list_all is_item items ≡ true → are_exprs item.row ≡ true
+exprs-item items k item at all = (and_parts _ (are_exprs item.row) (passes_at is_item items k item at all)).1
+
+pub guard-item : (items : List Item) (k : ℕ) (item : Item) → slice_get items k ≡ Some item → list_all is_item items ≡ true → is_guard item.guard ≡ true
+guard-item items k item at all =
+    let parts = (and_parts _ (are_exprs item.row) (passes_at is_item items k item at all)).0 in
+    (and_parts _ (is_guard item.guard) parts).1
+
+module _ (cols : List Kind) (items : List Item) (k : ℕ) (item : Item) (at : slice_get items k ≡ Some item) (all : have_columns cols (item_exprs items) ≡ true) where
+  within-item : (have_columns cols (option_to_list item.guard) ≡ true) × (have_columns cols item.row ≡ true)
+  within-item =
+      let p = λ (e : Expr). has_columns (length cols) (term_of e) in
+      let each = λ (i : Item). option_to_list i.guard ++ i.row in
+      let here = passes_at (λ i. list_all p (each i)) items k item at (sym (list_all-flat_map p each items) ∙ all) in
+      and_parts _ _ (sym (list_all-append p (option_to_list item.guard) item.row) ∙ here)
+
+  -- a guard and a row read no column past the width
+  pub guard_within : have_columns cols (option_to_list item.guard) ≡ true
+  guard_within = within-item.0
+
+  pub row_within : have_columns cols item.row ≡ true
+  row_within = within-item.1
+
+-- ---- steps
+
+step_from : (from : ℕ) (ss : List Step) (i : ℕ) (s : Step) → slice_get ss i ≡ Some s → are_steps from ss ≡ true → is_step (from + i) s ≡ true
+step_from from [] i s at steps = cc
+step_from from (t ∷ ss) zero s at steps =
+    let same : t ≡ s = cc in
+    let here : from ≡ from + 0 = omega arith in
+    subst (λ u. is_step (from + 0) u ≡ true) same (subst (λ n. is_step n t ≡ true) here ((and_parts _ (are_steps (from + 1) ss) steps).0))
+step_from from (t ∷ ss) (suc i) s at steps =
+    let next : (from + 1) + i ≡ from + suc i = omega arith in
+    subst (λ n. is_step n s ≡ true) next (step_from (from + 1) ss i s at ((and_parts _ (are_steps (from + 1) ss) steps).1))
+
+-- each step of a plan is one at its place
+pub step_of_plan : (p : List Step) (i : ℕ) (s : Step) → slice_get p i ≡ Some s → is_plan p ≡ true → is_step i s ≡ true
+step_of_plan p i s at plan =
+    let here : 0 + i ≡ i = omega arith in
+    subst (λ n. is_step n s ≡ true) here (step_from 0 p i s at ((and_parts _ (are_steps 0 p) plan).1))
+
+-- a step more
+pub are_steps_more : (from : ℕ) (ss : List Step) (s : Step) → are_steps from ss ≡ true → is_step (from + length ss) s ≡ true → are_steps from (ss ++ s ∷ []) ≡ true
+are_steps_more from [] s steps last =
+    let here : from + 0 ≡ from = omega arith in
+    and_from _ _ (subst (λ n. is_step n s ≡ true) here last) refl
+are_steps_more from (t ∷ ss) s steps last =
+    let parts = and_parts (is_step from t) (are_steps (from + 1) ss) steps in
+    let next : from + length (t ∷ ss) ≡ (from + 1) + length ss = omega arith in
+    and_from _ _ parts.0 (are_steps_more (from + 1) ss s parts.1 (subst (λ n. is_step n s ≡ true) next last))
+
+pub some_steps : (p : List Step) → is_plan p ≡ true → 0 < length p
+some_steps p plan = let few = (and_parts _ (are_steps 0 p) plan).0 in leb-true 1 (length p) ((and_parts (nat_le 1 (length p)) _ few).0)
+
+-- ---- checks
+
+-- what a step without a fault passes
+pub record IsFaultless (types : List SourceType) (s : Step) (cs : List (List Kind)) (counts : List ℕ) : Type 0 where
+  pub known_source : knows_source types s ≡ true
+  pub within_width : step_has_columns s cs ≡ true
+  pub narrow : is_narrow types s cs ≡ true
+  pub few_uses : are_few counts ≡ true
+
+pub faultless : (types : List SourceType) (s : Step) (cs : List (List Kind)) (bs : List Bool) (counts : List ℕ) →
+    first_fault types s cs bs counts ≡ None → IsFaultless types s cs counts
+faultless types s cs bs counts none =
+    let a = passed (knows_source types s) _ _ none in
+    let b = passed (step_has_columns s cs) _ _ a.1 in
+    let c = passed (step_has_kinds s cs) _ _ b.1 in
+    let d = passed (is_narrow types s cs) _ _ c.1 in
+    let e = passed (may_group s bs) _ _ d.1 in
+    let f = passed (are_few counts) _ _ e.1 in
+    record { known_source = a.0; within_width = b.0; narrow = d.0; few_uses = f.0 }
