@@ -21,7 +21,7 @@ use Rattle.weighted_set.specs.Adding.{StaysInRange}
 use Rattle.weighted_set.specs.Changes.{entries_of}
 use Rattle.weighted_set.specs.Held.{HeldRows, PutsAt, HoldsStep}
 
-length-entries_of : (added : List Weighted) → length (entries_of added) ≡ length added
+pub length-entries_of : (added : List Weighted) → length (entries_of added) ≡ length added
 length-entries_of added = length-map added (λ (w : Weighted). (w.row, w.weight))
 
 -- A with the weights before place i added
@@ -37,7 +37,7 @@ pub running_start : (A : Dataset) (added : List Weighted) (table : HeldRows) →
 running_start A added table e = subst (IsRunningAt A added 0) (sym e) (record { rest = refl; step = λ x. refl })
 
 -- ---- one place more
-entry_is : (added : List Weighted) (i : ℕ) (e : Weighted) → i < length added → e ≡ get_or added i e → get_or (entries_of added) i (e.row, e.weight) ≡ (e.row, e.weight)
+pub entry_is : (added : List Weighted) (i : ℕ) (e : Weighted) → i < length added → e ≡ get_or added i e → get_or (entries_of added) i (e.row, e.weight) ≡ (e.row, e.weight)
 entry_is added i e h is = get_or-map (λ (w : Weighted). (w.row, w.weight)) added i e (e.row, e.weight) h ∙ ap (λ w. (w.row, w.weight)) (sym is)
 
 entries_from : (added : List Weighted) (i : ℕ) (e : Weighted) → i < length added → e ≡ get_or added i e → drop i (entries_of added) ≡ (e.row, e.weight) ∷ drop (i + 1) (entries_of added)

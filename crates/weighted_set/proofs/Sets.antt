@@ -1,6 +1,6 @@
 -- What a set keeps as its rows change.
-use Rattle.std.specs.Prelude.{ℕ, ◌≡◌, Bool, true, false, cond, ◌||◌, List, [], ◌∷◌, ◌++◌, length, map, filter, not, slice_get, Some, refl}
-use Rattle.std.proofs.Common.{sym, ap, subst, ◌∙◌, true≢false}
+use Rattle.std.specs.Prelude.{ℕ, ◌≡◌, Bool, true, false, cond, ◌||◌, List, [], ◌∷◌, ◌++◌, length, map, filter, not, refl}
+use Rattle.std.proofs.Common.{sym, ap, subst, ◌∙◌, true≢false, arith}
 use Rattle.std.proofs.lemmas.List.Folds.{list_any-append}
 use Rattle.ratios.specs.Range.{in_range, InRange}
 use Rattle.ratios.specs.Ratio.{Ratio, zero_ratio}
@@ -10,7 +10,9 @@ use Rattle.datasets.proofs.Counts.{set_at-same, entries-dataset_of}
 use Rattle.datasets.proofs.Equality.{same_weights}
 use Rattle.datasets.proofs.Weights.{at-empty, at-set_at}
 use Rattle.weighted_set.specs.declared.held.Held.{Held}
-use Rattle.weighted_set.specs.Held.{HeldRows, committed_of, pending_of, DifferOnlyAt, AllInRange, IsSet}
+use Rattle.weighted_set.specs.declared.held.View.{View}
+use Rattle.weighted_set.specs.declared.held.View.TheVariants.{Committed, Pending}
+use Rattle.weighted_set.specs.Held.{HeldRows, committed_of, dataset_by, viewed, weight_of, pending_of, DifferOnlyAt, AllInRange, IsSet}
 
 -- ---- the touched rows
 none_of_both : (a b : Bool) → (a || (b || false)) ≡ false → (a ≡ false) × (b ≡ false)
@@ -22,13 +24,13 @@ both_not : (a b : Bool) → a ≡ false → b ≡ false → (a || (b || false)) 
 both_not a b h k = ap (λ c. c || (b || false)) h ∙ ap (λ c. c || false) k
 
 -- a row that is none of these is not the last of them, nor one of the others
-apart_from_all : (ts : List Row) (x y : Row) → has_row (ts ++ x ∷ []) y ≡ false → (has_row ts y ≡ false) × (same_row y x ≡ false)
+pub apart_from_all : (ts : List Row) (x y : Row) → has_row (ts ++ x ∷ []) y ≡ false → (has_row ts y ≡ false) × (same_row y x ≡ false)
 apart_from_all ts x y h = none_of_both (has_row ts y) (same_row y x) (sym (list_any-append (same_row y) ts (x ∷ [])) ∙ h)
 
-apart_from_more : (ts : List Row) (x y : Row) → has_row ts y ≡ false → same_row y x ≡ false → has_row (ts ++ x ∷ []) y ≡ false
+pub apart_from_more : (ts : List Row) (x y : Row) → has_row ts y ≡ false → same_row y x ≡ false → has_row (ts ++ x ∷ []) y ≡ false
 apart_from_more ts x y h k = list_any-append (same_row y) ts (x ∷ []) ∙ both_not (has_row ts y) (same_row y x) h k
 
-at_other : (x y : Row) (w : Ratio) (A : Dataset) → same_row y x ≡ false → at (set_at x w A) y ≡ at A y
+pub at_other : (x y : Row) (w : Ratio) (A : Dataset) → same_row y x ≡ false → at (set_at x w A) y ≡ at A y
 at_other x y w A h = at-set_at x w A y ∙ ap (λ b. cond b w (at A y)) h
 
 at_same : (x y : Row) (w : Ratio) (A : Dataset) → same_row y x ≡ true → at (set_at x w A) y ≡ w
@@ -53,14 +55,14 @@ pub same_if_untouched : (A B : Dataset) → DifferOnlyAt [] A B → A ≡ B
 same_if_untouched A B h = same_weights A B (λ x. h x refl)
 
 -- ---- the range
-InRange-zero : InRange zero_ratio
+pub InRange-zero : InRange zero_ratio
 unfolding in_range zero_ratio
 InRange-zero = refl
 
-AllInRange-empty : AllInRange empty
+pub AllInRange-empty : AllInRange empty
 AllInRange-empty x = subst InRange (sym (at-empty x)) InRange-zero
 
-AllInRange-set_at : (x : Row) (w : Ratio) (A : Dataset) → InRange w → AllInRange A → AllInRange (set_at x w A)
+pub AllInRange-set_at : (x : Row) (w : Ratio) (A : Dataset) → InRange w → AllInRange A → AllInRange (set_at x w A)
 AllInRange-set_at x w A h k y =
     elim (same_row y x) as (λ b. same_row y x ≡ b → InRange (at (set_at x w A) y)) [
       | true ↦ λ p. subst InRange (sym (at_same x y w A p)) h
@@ -133,17 +135,26 @@ module _ (es new : HeldRows) (ts : List Row) (x : Row) (len : ℕ) where
       }
 
 -- ---- the entries of a set, in order
-abbrev pub committed_entries : HeldRows → Entries
-committed_entries es = filter (λ e. not (is_zero e.1)) (map (λ e. (e.0, e.1.committed)) es)
+-- the rows of a weight other than 0
+abbrev pub entries_by : (Held → Ratio) → HeldRows → Entries
+entries_by f es = filter (λ e. not (is_zero e.1)) (map (λ e. (e.0, f e.1)) es)
 
 rows_of-map : (f : Held → Ratio) (es : HeldRows) → rows_of (map (λ e. (e.0, f e.1)) es) ≡ map (λ e. e.0) es
 rows_of-map f [] = refl
 rows_of-map f (e ∷ es) = ap (λ xs. e.0 ∷ xs) (rows_of-map f es)
 
-pub entries-committed_of : (es : HeldRows) → AreRising (map (λ e. e.0) es) → (committed_of es).entries ≡ committed_entries es
-entries-committed_of es h = entries-dataset_of (map (λ e. (e.0, e.1.committed)) es) (subst AreRising (sym (rows_of-map (λ h. h.committed) es)) h)
+pub entries-dataset_by : (f : Held → Ratio) (es : HeldRows) → AreRising (map (λ e. e.0) es) → (dataset_by f es).entries ≡ entries_by f es
+entries-dataset_by f es h = entries-dataset_of (map (λ e. (e.0, f e.1)) es) (subst AreRising (sym (rows_of-map f es)) h)
 
-pub first_committed_entry : (left : ℕ) (x : Row) (h : Held) (es : HeldRows) → left ≡ 0 → is_zero h.committed ≡ false → slice_get (committed_entries ((x, h) ∷ es)) left ≡ Some (x, h.committed)
-first_committed_entry left x h es e f =
-    let all = committed_entries ((x, h) ∷ es) in
-    ap (slice_get all) e ∙ ap (λ b. slice_get (cond (not b) ((x, h.committed) ∷ committed_entries es) (committed_entries es)) 0) f
+-- the first row, where its weight isn't 0
+pub entries_by-takes : (f : Held → Ratio) (x : Row) (h : Held) (es : HeldRows) → is_zero (f h) ≡ false → entries_by f ((x, h) ∷ es) ≡ (x, f h) ∷ entries_by f es
+entries_by-takes f x h es n = ap (λ b. cond (not b) ((x, f h) ∷ entries_by f es) (entries_by f es)) n
+
+-- ---- the views of a set
+pub dataset_by-view : (view : View) (es : HeldRows) → dataset_by (weight_of view) es ≡ viewed view (record { committed = committed_of es; pending = pending_of es })
+dataset_by-view Committed es = refl
+dataset_by-view Pending es = refl
+
+pub none_if_no_length : (es : HeldRows) → length es ≡ 0 → es ≡ []
+none_if_no_length [] e = refl
+none_if_no_length (x ∷ es) e = absurd (omega arith)

@@ -1,10 +1,12 @@
 -- The datasets of a table of rows that hold two weights.
 use Rattle.std.specs.Prelude.{◌≤◌, ◌≡◌, Bool, true, false, cond, [], ◌∷◌, map, length, Option, Some, None, refl, unwrap_or}
 use Rattle.std.specs.Map.{lookup}
+use Rattle.std.specs.Option.{option_map}
 use Rattle.std.proofs.Common.{sym, ap, ◌∙◌, arith}
+use Rattle.std.proofs.lemmas.Map.Made.{lookup-map_values}
 use Rattle.ratios.specs.Ratio.{Ratio, zero_ratio}
 use Rattle.datasets.specs.Dataset.{at, rows, empty, set_at, dataset_of}
-use Rattle.datasets.specs.Entries.{Row, same_row, row_count, weight_in, is_zero}
+use Rattle.datasets.specs.Entries.{Row, Entries, same_row, row_count, weight_in, is_zero}
 use Rattle.datasets.proofs.Counts.{length-set_at}
 use Rattle.datasets.proofs.Equality.{same_weights}
 use Rattle.datasets.proofs.Rows.{same_row-turned}
@@ -17,34 +19,52 @@ abbrev pub weight_found : (Held → Ratio) → Option Held → Ratio
 weight_found weight None = zero_ratio
 weight_found weight (Some h) = weight h
 
-found_in : (f : Held → Ratio) (es : HeldRows) (x : Row) → weight_in (map (λ e. (e.0, f e.1)) es) x ≡ weight_found f (lookup (same_row x) es)
-found_in f [] x = refl
-found_in f (e ∷ es) x =
-    elim (same_row x e.0) as (λ b. unwrap_or (cond b (Some (f e.1)) (lookup (same_row x) (map (λ e. (e.0, f e.1)) es))) zero_ratio ≡ weight_found f (cond b (Some e.1) (lookup (same_row x) es))) [
-      | true ↦ refl
-      | false ↦ found_in f es x
-    ]
+found_mapped : (f : Held → Ratio) (o : Option Held) → unwrap_or (option_map f o) zero_ratio ≡ weight_found f o
+found_mapped f None = refl
+found_mapped f (Some h) = refl
 
 pub at-dataset_by : (f : Held → Ratio) (es : HeldRows) (x : Row) → at (dataset_by f es) x ≡ weight_found f (lookup (same_row x) es)
-at-dataset_by f es x = at-dataset_of (map (λ e. (e.0, f e.1)) es) x ∙ found_in f es x
+at-dataset_by f es x =
+    at-dataset_of (map (λ e. (e.0, f e.1)) es) x
+    ∙ ap (λ o. unwrap_or o zero_ratio) (lookup-map_values f (same_row x) es)
+    ∙ found_mapped f (lookup (same_row x) es)
 
+-- ---- one row is changed
 -- the row x is found with o, and every other row with what it had
+abbrev pub WeighsAt : Row → Option Ratio → Entries → Entries → Type 0
+WeighsAt x o old new = (q : Row) → lookup (same_row q) new ≡ cond (same_row x q) o (lookup (same_row q) old)
+
+weight_or_zero : (b : Bool) (o p : Option Ratio) → unwrap_or (cond b o p) zero_ratio ≡ cond b (unwrap_or o zero_ratio) (unwrap_or p zero_ratio)
+weight_or_zero true o p = refl
+weight_or_zero false o p = refl
+
+pub dataset_of-weighs : (x : Row) (o : Option Ratio) (old new : Entries) → WeighsAt x o old new → dataset_of new ≡ set_at x (unwrap_or o zero_ratio) (dataset_of old)
+dataset_of-weighs x o old new h =
+    let w = unwrap_or o zero_ratio in
+    same_weights (dataset_of new) (set_at x w (dataset_of old)) (λ y.
+    at-dataset_of new y
+    ∙ ap (λ p. unwrap_or p zero_ratio) (h y)
+    ∙ weight_or_zero (same_row x y) o (lookup (same_row y) old)
+    ∙ ap (λ b. cond b w (weight_in old y)) (same_row-turned x y)
+    ∙ ap (cond (same_row y x) w) (sym (at-dataset_of old y))
+    ∙ sym (at-set_at x w (dataset_of old) y))
+
+-- the same of a table
 abbrev pub FindsAt : Row → Option Held → HeldRows → HeldRows → Type 0
 FindsAt x o old new = (q : Row) → lookup (same_row q) new ≡ cond (same_row x q) o (lookup (same_row q) old)
 
-found_or : (f : Held → Ratio) (b : Bool) (o p : Option Held) → weight_found f (cond b o p) ≡ cond b (weight_found f o) (weight_found f p)
-found_or f true o p = refl
-found_or f false o p = refl
+mapped_or : (f : Held → Ratio) (b : Bool) (o p : Option Held) → option_map f (cond b o p) ≡ cond b (option_map f o) (option_map f p)
+mapped_or f true o p = refl
+mapped_or f false o p = refl
 
 pub dataset_by-finds : (f : Held → Ratio) (x : Row) (o : Option Held) (old new : HeldRows) → FindsAt x o old new → dataset_by f new ≡ set_at x (weight_found f o) (dataset_by f old)
 dataset_by-finds f x o old new h =
-    same_weights (dataset_by f new) (set_at x (weight_found f o) (dataset_by f old)) (λ y.
-    at-dataset_by f new y
-    ∙ ap (weight_found f) (h y)
-    ∙ found_or f (same_row x y) o (lookup (same_row y) old)
-    ∙ ap (λ b. cond b (weight_found f o) (weight_found f (lookup (same_row y) old))) (same_row-turned x y)
-    ∙ ap (cond (same_row y x) (weight_found f o)) (sym (at-dataset_by f old y))
-    ∙ sym (at-set_at x (weight_found f o) (dataset_by f old) y))
+    dataset_of-weighs x (option_map f o) (map (λ e. (e.0, f e.1)) old) (map (λ e. (e.0, f e.1)) new) (λ q.
+    lookup-map_values f (same_row q) new
+    ∙ ap (option_map f) (h q)
+    ∙ mapped_or f (same_row x q) o (lookup (same_row q) old)
+    ∙ ap (cond (same_row x q) (option_map f o)) (sym (lookup-map_values f (same_row q) old)))
+    ∙ ap (λ w. set_at x w (dataset_by f old)) (found_mapped f o)
 
 -- ---- how many rows
 pub row_count-le : (w : Ratio) → row_count w ≤ 1

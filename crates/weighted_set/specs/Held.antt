@@ -9,6 +9,8 @@ use Rattle.datasets.specs.Code.{dataset_code}
 use Rattle.datasets.specs.Dataset.{Dataset, at, rows, dataset_of}
 use Rattle.datasets.specs.Entries.{Row, has_row, same_row}
 use Rattle.weighted_set.specs.declared.held.Held.{Held}
+use Rattle.weighted_set.specs.declared.held.View.{View}
+use Rattle.weighted_set.specs.declared.held.View.TheVariants.{Committed, Pending}
 use Rattle.weighted_set.specs.declared.weighted.Change.{Change}
 
 -- rows, each with its two weights
@@ -27,6 +29,11 @@ committed_of es = dataset_by (λ h. h.committed) es
 abbrev pub pending_of : HeldRows → Dataset
 pending_of es = dataset_by (λ h. h.pending) es
 
+-- the weight of a view
+abbrev pub weight_of : View → Held → Ratio
+weight_of Committed h = h.committed
+weight_of Pending h = h.pending
+
 -- what callers see of a set: the committed dataset, and the one that is pending
 pub record HeldDatasets : Type 0 where
   pub committed : Dataset
@@ -36,6 +43,11 @@ pub record HeldDatasets : Type 0 where
 abbrev pub held_datasets_code : Coded HeldDatasets
 held_datasets_code =
     code_by (Dataset × Dataset) (coded× dataset_code dataset_code) (λ h. (h.committed, h.pending)) (λ p. record { committed = p.0; pending = p.1 }) (λ _. refl)
+
+-- the dataset of a view
+abbrev pub viewed : View → HeldDatasets → Dataset
+viewed Committed h = h.committed
+viewed Pending h = h.pending
 
 -- a row that is none of these has one weight in A and in B
 abbrev pub DifferOnlyAt : List Row → Dataset → Dataset → Type 0

@@ -1,4 +1,9 @@
 pub mod Changes
 pub mod Adding
 pub mod Held
+pub mod Parts
+pub mod Standing
 pub mod Laws
+pub mod Sizes
+pub mod Sources
+pub mod Compared

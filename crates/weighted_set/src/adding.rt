@@ -1,12 +1,10 @@
 //! Weights that are added one by one.
 ghost use Rattle.std.specs.Prelude.{◌≡◌, IfErr, IfOk, true};
-ghost use Rattle.std.specs.BTreeMap.{IsOrdered};
 ghost use Rattle.std.specs.List.{position_from};
 ghost use Rattle.datasets.specs.Dataset.{Dataset, at as weight_at, is_negative, with_added};
-ghost use Rattle.record_text.specs.Order.{row_cmp};
 ghost use Rattle.weighted_set.specs.Adding.{IsAddFault, StaysInRange};
-ghost use Rattle.weighted_set.specs.Changes.{entries_of};
-ghost use Rattle.weighted_set.specs.Held.{HoldsStep, held_changes};
+ghost use Rattle.weighted_set.specs.Changes.{IsChangeList, entries_of};
+ghost use Rattle.weighted_set.specs.Held.{HoldsStep};
 ghost use Rattle.weighted_set.specs.declared.adding.AddFault.TheVariants as fault;
 
 use crate::Memory;
@@ -98,10 +96,9 @@ pub fn first_negative(
     None
 }
 
-/// The rows whose two weights differ, as changes.
+/// The rows whose two weights differ, as changes in row order.
 pub fn changes_in(alloc: Global, running: BTreeMap<Row, Held>) -> Result<Vec<Change>, Memory>
-    ensures changes { IfOk result (λ changes. changes.items ≡ held_changes running.entries) }
-    ensures ordered { IsOrdered row_cmp running }
+    ensures { IfOk result (λ changes. (A B : Dataset) → HoldsStep running.entries A B → IsChangeList changes.items A B) }
 {
     // Tells that the rows are in order.
     let _len = running.len();

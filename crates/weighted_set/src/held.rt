@@ -1,21 +1,44 @@
 //! Rows with a committed and a pending weight each.
-ghost use Rattle.std.specs.Prelude.{◌≡◌, ◌<◌, ◌≤◌, IfOk, OnErr, OnOk, length, slice_get};
+ghost use Rattle.std.specs.Prelude.{[], ◌≡◌, ◌+◌, ◌<◌, ◌≤◌, IfOk, OnErr, OnOk, length, slice_get};
 ghost use Rattle.std.specs.Map.{lookup};
 ghost use Rattle.datasets.specs.Dataset.{at, rows, set_at};
 ghost use Rattle.datasets.specs.Entries.{is_zero as is_zero_ratio, row_count as row_count_of, same_row};
 ghost use Rattle.ratios.specs.Ratio.{zero_ratio};
-ghost use Rattle.weighted_set.specs.Held.{PutsAt, committed_of, pending_of};
+ghost use Rattle.weighted_set.specs.Changes.{entries_of};
+ghost use Rattle.weighted_set.specs.Held.{PutsAt, committed_of, dataset_by, pending_of, weight_of};
 
 use crate::Memory;
+use crate::weighted::Weighted;
 use frac_core::Frac;
 use record_text::Row;
 use std::collections::BTreeMap;
+use std::sync::ledger::Ledger;
+use steps::Steps;
 
 /// The two weights of one row.
 #[derive(Clone, Copy, Debug)]
 pub struct Held {
     pub committed: Frac,
     pub pending: Frac,
+}
+
+/// One of the two weights of each row.
+#[derive(Clone, Copy, PartialEq, Eq, Debug)]
+pub enum View {
+    /// The weights as they are.
+    Committed,
+    /// The weights as they are once what is pending is committed.
+    Pending,
+}
+
+// The weight of a view.
+fn weight_by(view: View, held: Held) -> Frac
+    ensures { result ≡ weight_of view held }
+{
+    match view {
+        View::Committed => held.committed,
+        View::Pending => held.pending,
+    }
 }
 
 /// Whether the weight is 0.
@@ -116,4 +139,27 @@ pub fn abort_row(table: &mut BTreeMap<Row, Held>, row: &Row)
 {
     let held = held_at(table, row);
     settle(table, row, held.committed);
+}
+
+/// Puts the rows with a weight in the view in an empty list, in row order, with one tick for each.
+pub fn read_rows<L: Ledger>(
+    table: &BTreeMap<Row, Held>,
+    view: View,
+    into: &mut Vec<Weighted>,
+    steps: &mut Steps<L>,
+) -> Result<(), Memory>
+    requires { into.old.items ≡ [] }
+    ensures entries { OnOk result (entries_of into.new.items ≡ (dataset_by (weight_of view) table.now.entries).entries) }
+    ensures ticks { OnOk result (steps.new ≡ steps.old + length (dataset_by (weight_of view) table.now.entries).entries) }
+    ensures at_most { steps.new ≤ steps.old + length (dataset_by (weight_of view) table.now.entries).entries }
+{
+    for (row, held) in table {
+        let weight = weight_by(view, *held);
+        if !is_zero(weight) {
+            steps.tick();
+            let row = row.try_copy()?;
+            into.push(Weighted { row, weight })?;
+        }
+    }
+    Ok(())
 }

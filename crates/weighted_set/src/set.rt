@@ -1,19 +1,21 @@
 //! A set of rows with weights, which changes in two steps.
-ghost use Rattle.std.specs.Prelude.{◌≡◌, ◌<◌, IfErr, IfOk, OnErr, OnOk, length, slice_get};
+ghost use Rattle.std.specs.Prelude.{◌≡◌, ◌+◌, ◌<◌, ◌≤◌, IfErr, IfOk, OnErr, OnOk, length, slice_get, true};
 ghost use Rattle.datasets.specs.Dataset.{at as weight_at, empty, rows, set_at};
 ghost use Rattle.weighted_set.specs.Adding.{AreChangesOfAdding, IsAddFault};
-ghost use Rattle.weighted_set.specs.Changes.{AreChangesOf, applied};
-ghost use Rattle.weighted_set.specs.Held.{AllInRange};
+ghost use Rattle.weighted_set.specs.Changes.{AreChangesOf, applied, entries_of};
+ghost use Rattle.weighted_set.specs.Held.{AllInRange, viewed};
 
 use crate::Memory;
 use crate::adding::{AddFault, add_all, changes_in, first_negative};
-use crate::held::{Held, abort_row, commit_row, entry_at, held_at, put};
+use crate::held::{Held, View, abort_row, commit_row, entry_at, held_at, put, read_rows};
 use crate::weighted::{Change, Weighted};
 use frac_core::Frac;
 use record_text::Row;
 use std::alloc::Global;
 use std::collections::BTreeMap;
 use std::marker::Model;
+use std::sync::ledger::Ledger;
+use steps::Steps;
 
 /// A set of rows with weights other than 0. Its rows and weights are the committed ones; a list of changes
 /// is prepared first, and then committed or aborted.
@@ -119,26 +121,65 @@ impl HeldSet {
         ensures ok { OnOk result (self.new.pending ≡ applied self.old.pending changes.now) }
     {
         for change in changes {
-            self.put_change(change)?;
+            let held = Held {
+                committed: change.old,
+                pending: change.new,
+            };
+            self.put_held(&change.row, held)?;
         }
         Ok(())
     }
 
-    fn put_change(&mut self, change: &Change) -> Result<(), Memory>
-        requires { change.now.old ≡ weight_at self.old.committed change.now.row }
+    /// Makes `weight` the pending weight of a row. After a refusal the set is unchanged.
+    pub(crate) fn put_pending(&mut self, row: &Row, weight: Frac) -> Result<(), Memory>
         ensures committed { self.new.committed ≡ self.old.committed }
-        ensures ok { OnOk result (self.new.pending ≡ set_at change.now.row change.now.new self.old.pending) }
+        ensures ok { OnOk result (self.new.pending ≡ set_at row.now weight self.old.pending) }
+        ensures err { OnErr result (self.new.pending ≡ self.old.pending) }
     {
-        let note = change.row.try_copy()?;
+        let held = Held {
+            committed: self.weight(row),
+            pending: weight,
+        };
+        self.put_held(row, held)
+    }
+
+    // Puts the weights of a row, whose committed one stays.
+    fn put_held(&mut self, row: &Row, held: Held) -> Result<(), Memory>
+        requires { held.committed ≡ weight_at self.old.committed row.now }
+        ensures committed { self.new.committed ≡ self.old.committed }
+        ensures ok { OnOk result (self.new.pending ≡ set_at row.now held.pending self.old.pending) }
+        ensures err { OnErr result (self.new.pending ≡ self.old.pending) }
+    {
+        let note = row.try_copy()?;
         self.touched.push(note)?;
         // Tells that the weight is in range.
-        let _numerator = change.new.numer();
-        let held = Held {
-            committed: change.old,
-            pending: change.new,
-        };
-        put(&mut self.table, &change.row, held)?;
+        let _numerator = held.pending.numer();
+        put(&mut self.table, row, held)?;
         Ok(())
+    }
+
+    /// Puts the rows and weights of a view in a list, in row order, in place of what is there. It takes one tick
+    /// for each of them.
+    pub(crate) fn read<L: Ledger>(
+        &self,
+        view: View,
+        into: &mut Vec<Weighted>,
+        steps: &mut Steps<L>,
+    ) -> Result<(), Memory>
+        ensures entries { OnOk result (entries_of into.new.items ≡ (viewed view self.now).entries) }
+        ensures ticks { OnOk result (steps.new ≡ steps.old + length (viewed view self.now).entries) }
+        ensures at_most { steps.new ≤ steps.old + length (viewed view self.now).entries }
+    {
+        into.clear();
+        read_rows(&self.table, view, into, steps)
+    }
+
+    /// Whether no row is kept; then neither view has one.
+    pub(crate) fn is_empty(&self) -> bool
+        ensures committed { result ≡ true → self.now.committed ≡ empty }
+        ensures pending { result ≡ true → self.now.pending ≡ empty }
+    {
+        self.table.is_empty()
     }
 
     /// Makes the pending weights the committed ones.

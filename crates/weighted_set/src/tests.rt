@@ -7,16 +7,17 @@ use record_text::{Atom, Row};
 use std::alloc::Global;
 use std::test::Fail;
 
-const MOST: i64 = 4611686018427387903;
+pub const MOST: i64 = 4611686018427387903;
 
-fn row(alloc: Global, n: i64) -> Result<Row, Memory> {
+/// A row of one atom.
+pub fn row(alloc: Global, n: i64) -> Result<Row, Memory> {
     let mut atoms = Vec::new(alloc);
     atoms.push(Atom::Int(n))?;
     Ok(Row::from_atoms(atoms))
 }
 
-// Rows of one atom, with whole weights.
-fn weights(alloc: Global, pairs: &[(i64, i64)]) -> Result<Vec<Weighted>, Fail> {
+/// Rows of one atom, with whole weights.
+pub fn weights(alloc: Global, pairs: &[(i64, i64)]) -> Result<Vec<Weighted>, Fail> {
     let mut added = Vec::new(alloc);
     for (n, weight) in pairs {
         let row = row(alloc, *n)?;

@@ -1,10 +1,7 @@
-use Rattle.std.proofs.Common.{inl, inr, sym, subst}
-use Rattle.std.proofs.lemmas.Map.Views.{All-found}
-use Rattle.record_text.specs.OrderLaws.{row_total}
+use Rattle.std.proofs.Common.{inl, inr, sym}
 use Rattle.datasets.specs.Dataset.{with_added}
 use Rattle.weighted_set.specs.Adding.{EndsAllowed}
-use Rattle.weighted_set.specs.Changes.{IsChangeList, entries_of}
-use Rattle.weighted_set.proofs.ChangeLists.{held_changes_lead}
+use Rattle.weighted_set.specs.Changes.{entries_of}
 use Rattle.weighted_set.proofs.set.HeldSet.changes_of.Goals as goal
 use Rattle.weighted_set.proofs.set.HeldSet.changes_of.Goals.{then-not-signed+in_default, else-not-signed}
 
@@ -18,8 +15,6 @@ returns-clause-ok c =
     let A = c.args.self.now.committed in
     let B = with_added A (entries_of c.args.added.now) in
     let step = c.in_ok-running.ensures.step in
-    let running = c.in_ok-running.running in
-    let ordered = c.changes_in.ensures.ordered in
     let allowed : EndsAllowed A c.args.added.now c.args.signed =
     elim c.if-not-signed.branch [
       | then-not-signed+in_default w ↦ inr (sym (w.in_default.ensures B step))
@@ -28,5 +23,5 @@ returns-clause-ok c =
     record {
       in_range = c.in_ok-running.ensures.in_range;
       allowed = allowed;
-      lead_there = subst (λ cs. IsChangeList cs A B) (sym c.in_ok-changes.ensures.changes) (held_changes_lead A B running.entries ordered (All-found row_total running ordered) step);
+      lead_there = c.in_ok-changes.ensures A B step;
     }

@@ -5,7 +5,7 @@ use Rattle.weighted_set.specs.declared.held.Held.{Held}
 use Rattle.weighted_set.specs.Held.{HeldRows, PutsAt, committed_of, IsSet}
 use Rattle.weighted_set.proofs.Tables.{dataset_by-finds}
 use Rattle.weighted_set.proofs.Sets.{put_is_set, noted_is_set}
-use Rattle.weighted_set.proofs.set.HeldSet.put_change.Goals as goal
+use Rattle.weighted_set.proofs.set.HeldSet.put_held.Goals as goal
 
 -- what is put is the committed weight, so that the committed weights stay
 committed_stays : (es new : HeldRows) (x : _) (h : Held) → PutsAt x h es new → h.committed ≡ at (committed_of es) x → committed_of new ≡ committed_of es
@@ -15,35 +15,32 @@ committed_stays es new x h p e =
 pub invariant_of-self-in_err-put : goal.invariant_of-self-in_err-put
 invariant_of-self-in_err-put c =
     let old = c.self.inside in
-    let noted = noted_is_set old.table.entries old.table.entries old.touched.items c.args.change.now.row old.len c.self.invariant in
-    let e : c.push.new.self.items ≡ old.touched.items ++ c.args.change.now.row ∷ [] = c.in_ok-push.ensures.items ∙ ap (λ r. old.touched.items ++ r ∷ []) c.in_ok-note.ensures in
+    let noted = noted_is_set old.table.entries old.table.entries old.touched.items c.args.row.now old.len c.self.invariant in
+    let e : c.push.new.self.items ≡ old.touched.items ++ c.args.row.now ∷ [] = c.in_ok-push.ensures.items ∙ ap (λ r. old.touched.items ++ r ∷ []) c.in_ok-note.ensures in
     subst (λ es. IsSet es c.push.new.self.items old.len) (sym c.in_err-put.ensures.err) (subst (λ ts. IsSet old.table.entries ts old.len) (sym e) noted)
 
 pub returns-clause-committed : goal.returns-clause-committed
 returns-clause-committed c =
-    let held : Held = record { committed = c.args.change.now.old; pending = c.args.change.now.new } in
     let es = c.self.inside.table.entries in
     let same = ap (λ v. v.committed) c.self.view_is in
-    committed_stays es c.put.new.table.entries c.args.change.now.row held c.in_ok-put.ensures.ok
-    (c.requires ∙ ap (λ A. at A c.args.change.now.row) (sym same)) ∙ same
+    committed_stays es c.put.new.table.entries c.args.row.now c.args.held c.in_ok-put.ensures.ok
+    (c.requires ∙ ap (λ A. at A c.args.row.now) (sym same)) ∙ same
 
 pub returns-clause-ok : goal.returns-clause-ok
 returns-clause-ok c =
-    let held : Held = record { committed = c.args.change.now.old; pending = c.args.change.now.new } in
-    let x = c.args.change.now.row in
-    dataset_by-finds (λ h. h.pending) x (Some held) c.self.inside.table.entries c.put.new.table.entries c.in_ok-put.ensures.ok
-    ∙ ap (λ v. set_at x c.args.change.now.new v.pending) c.self.view_is
+    let x = c.args.row.now in
+    dataset_by-finds (λ h. h.pending) x (Some c.args.held) c.self.inside.table.entries c.put.new.table.entries c.in_ok-put.ensures.ok
+    ∙ ap (λ v. set_at x c.args.held.pending v.pending) c.self.view_is
 
 pub invariant_of-self-2 : goal.invariant_of-self-2
 invariant_of-self-2 c =
     let old = c.self.inside in
-    let held : Held = record { committed = c.args.change.now.old; pending = c.args.change.now.new } in
-    let x = c.args.change.now.row in
+    let x = c.args.row.now in
     let new = c.put.new.table.entries in
     let same = ap (λ v. v.committed) c.self.view_is in
     let e : c.push.new.self.items ≡ old.touched.items ++ x ∷ [] = c.in_ok-push.ensures.items ∙ ap (λ r. old.touched.items ++ r ∷ []) c.in_ok-note.ensures in
-    let put = put_is_set old.table.entries new old.touched.items x old.len c.args.change.now.new c.self.invariant
-    (committed_stays old.table.entries new x held c.in_ok-put.ensures.ok (c.requires ∙ ap (λ A. at A x) (sym same)))
-    (dataset_by-finds (λ h. h.pending) x (Some held) old.table.entries new c.in_ok-put.ensures.ok)
+    let put = put_is_set old.table.entries new old.touched.items x old.len c.args.held.pending c.self.invariant
+    (committed_stays old.table.entries new x c.args.held c.in_ok-put.ensures.ok (c.requires ∙ ap (λ A. at A x) (sym same)))
+    (dataset_by-finds (λ h. h.pending) x (Some c.args.held) old.table.entries new c.in_ok-put.ensures.ok)
     c.numer-numerator.ensures.in_range in
     subst (λ ts. IsSet new ts old.len) (sym e) put

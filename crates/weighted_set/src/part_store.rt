@@ -1,0 +1,210 @@
+//! Weights by key and row, which change in two steps.
+ghost use Rattle.std.specs.Prelude.{◌≡◌, ◌+◌, ◌≤◌, if◌then◌else◌, IsSome, OnErr, OnOk, length};
+ghost use Rattle.std.specs.Map.{lookup};
+ghost use Rattle.datasets.specs.Dataset.{at as weight_at, empty};
+ghost use Rattle.datasets.specs.Entries.{Row as RowValue, same_row};
+ghost use Rattle.weighted_set.specs.Changes.{entries_of};
+ghost use Rattle.weighted_set.specs.Held.{AllInRange};
+ghost use Rattle.weighted_set.specs.Parts.{committed_part, part_in, pending_part, set_at_key};
+
+use crate::Memory;
+use crate::held::View;
+use crate::set::HeldSet;
+use crate::weighted::Weighted;
+use frac_core::Frac;
+use record_text::Row;
+use std::alloc::Global;
+use std::collections::BTreeMap;
+use std::marker::Model;
+use std::sync::ledger::Ledger;
+use steps::Steps;
+
+/// A store of weights other than 0 by key and row. The rows of one key are its part.
+#[derive(Drop)]
+pub struct PartStore {
+    // The part of each key that has rows or is touched.
+    parts: BTreeMap<Row, HeldSet>,
+    // The keys whose part may have a pending change.
+    touched: Vec<Row>,
+    alloc: Global,
+}
+
+impl Model for PartStore {
+    ghost use Rattle.std.specs.Coded.{coded×, coded_list};
+    ghost use Rattle.record_text.specs.contracts.atom.Atom as atom;
+    ghost use Rattle.weighted_set.specs.Held.{held_datasets_code};
+    ghost use Rattle.weighted_set.specs.Parts.{PendOnlyAt, StoreParts};
+
+    ghost Value = { StoreParts };
+
+    ghost coded = { coded_list (coded× (coded_list atom.the_row.coded) held_datasets_code) };
+
+    ghost view = { λ s. s.parts.entries };
+
+    ghost invariant = { λ s. PendOnlyAt s.touched.items s.parts.entries };
+}
+
+impl PartStore {
+    /// A store with no rows.
+    pub fn new(alloc: Global) -> PartStore
+        ensures committed { (k : RowValue) → committed_part result k ≡ empty }
+        ensures pending { (k : RowValue) → pending_part result k ≡ empty }
+    {
+        PartStore {
+            parts: BTreeMap::new(alloc),
+            touched: Vec::new(alloc),
+            alloc,
+        }
+    }
+
+    /// Puts a key's rows and weights in a list, in row order, in place of what is there. It takes one tick for
+    /// each of them.
+    pub fn read_part<L: Ledger>(
+        &self,
+        key: &Row,
+        view: View,
+        into: &mut Vec<Weighted>,
+        steps: &mut Steps<L>,
+    ) -> Result<(), Memory>
+        ensures entries { OnOk result (entries_of into.new.items ≡ (part_in view self.now key.now).entries) }
+        ensures ticks { OnOk result (steps.new ≡ steps.old + length (part_in view self.now key.now).entries) }
+        ensures at_most { steps.new ≤ steps.old + length (part_in view self.now key.now).entries }
+    {
+        match self.parts.get(key) {
+            Some(part) => part.read(view, into, steps),
+            None => {
+                into.clear();
+                Ok(())
+            }
+        }
+    }
+
+    /// The committed weight of a row at a key, 0 where it is absent. It takes one tick.
+    pub fn weight<L: Ledger>(&self, key: &Row, row: &Row, steps: &mut Steps<L>) -> Frac
+        ensures value { result ≡ weight_at (committed_part self.now key.now) row.now }
+        ensures in_range { AllInRange (committed_part self.now key.now) }
+        ensures ticks { steps.new ≡ steps.old + 1 }
+    {
+        steps.tick();
+        match self.parts.get(key) {
+            Some(part) => part.weight(row),
+            None => Frac::zero(),
+        }
+    }
+
+    /// Makes `weight` the pending weight of a row at a key. It takes one tick. After a refusal the store is
+    /// unchanged.
+    pub fn put_pending<L: Ledger>(
+        &mut self,
+        key: &Row,
+        row: &Row,
+        weight: Frac,
+        steps: &mut Steps<L>,
+    ) -> Result<(), Memory>
+        ensures committed { (k : RowValue) → committed_part self.new k ≡ committed_part self.old k }
+        ensures ok { OnOk result ((k : RowValue) → pending_part self.new k ≡ set_at_key key.now row.now weight (pending_part self.old) k) }
+        ensures err { OnErr result ((k : RowValue) → pending_part self.new k ≡ pending_part self.old k) }
+        ensures ticks { steps.new ≡ steps.old + 1 }
+    {
+        steps.tick();
+        self.put(key, row, weight)
+    }
+
+    fn put(&mut self, key: &Row, row: &Row, weight: Frac) -> Result<(), Memory>
+        ensures committed { (k : RowValue) → committed_part self.new k ≡ committed_part self.old k }
+        ensures ok { OnOk result ((k : RowValue) → pending_part self.new k ≡ set_at_key key.now row.now weight (pending_part self.old) k) }
+        ensures err { OnErr result ((k : RowValue) → pending_part self.new k ≡ pending_part self.old k) }
+    {
+        let note = key.try_copy()?;
+        self.touched.push(note)?;
+        add_key(self.alloc, &mut self.parts, key)?;
+        put_in_part(&mut self.parts, key, row, weight)
+    }
+
+    /// Makes the pending weights the committed ones.
+    pub fn commit(&mut self)
+        ensures committed { (k : RowValue) → committed_part self.new k ≡ pending_part self.old k }
+        ensures pending { (k : RowValue) → pending_part self.new k ≡ pending_part self.old k }
+    {
+        while let Some(key) = self.touched.pop() {
+            commit_part(&mut self.parts, &key);
+            drop_empty(&mut self.parts, &key);
+        }
+    }
+
+    /// Makes the committed weights the pending ones.
+    pub fn abort(&mut self)
+        ensures committed { (k : RowValue) → committed_part self.new k ≡ committed_part self.old k }
+        ensures pending { (k : RowValue) → pending_part self.new k ≡ committed_part self.old k }
+    {
+        while let Some(key) = self.touched.pop() {
+            abort_part(&mut self.parts, &key);
+            drop_empty(&mut self.parts, &key);
+        }
+    }
+}
+
+// Makes room for a key, with no rows.
+fn add_key(alloc: Global, parts: &mut BTreeMap<Row, HeldSet>, key: &Row) -> Result<(), Memory>
+    ensures committed { (k : RowValue) → committed_part parts.new.entries k ≡ committed_part parts.old.entries k }
+    ensures pending { (k : RowValue) → pending_part parts.new.entries k ≡ pending_part parts.old.entries k }
+    ensures has { OnOk result (IsSome (lookup (same_row key.now) parts.new.entries)) }
+{
+    if parts.contains_key(key) {
+        return Ok(());
+    }
+    let key = key.try_copy()?;
+    parts.insert(key, HeldSet::new(alloc))?;
+    Ok(())
+}
+
+// Makes `weight` the pending weight of a row at a key that the store has.
+fn put_in_part(
+    parts: &mut BTreeMap<Row, HeldSet>,
+    key: &Row,
+    row: &Row,
+    weight: Frac,
+) -> Result<(), Memory>
+    requires { IsSome (lookup (same_row key.now) parts.old.entries) }
+    ensures committed { (k : RowValue) → committed_part parts.new.entries k ≡ committed_part parts.old.entries k }
+    ensures ok { OnOk result ((k : RowValue) → pending_part parts.new.entries k ≡ set_at_key key.now row.now weight (pending_part parts.old.entries) k) }
+    ensures err { OnErr result ((k : RowValue) → pending_part parts.new.entries k ≡ pending_part parts.old.entries k) }
+{
+    match parts.get_mut(key) {
+        Some(part) => part.put_pending(row, weight),
+        None => unreachable!(),
+    }
+}
+
+// Makes the pending weights of a key the committed ones.
+fn commit_part(parts: &mut BTreeMap<Row, HeldSet>, key: &Row)
+    ensures committed { (k : RowValue) → committed_part parts.new.entries k ≡ (if same_row k key.now then pending_part parts.old.entries k else committed_part parts.old.entries k) }
+    ensures pending { (k : RowValue) → pending_part parts.new.entries k ≡ pending_part parts.old.entries k }
+{
+    if let Some(part) = parts.get_mut(key) {
+        part.commit();
+    }
+}
+
+// Makes the committed weights of a key the pending ones.
+fn abort_part(parts: &mut BTreeMap<Row, HeldSet>, key: &Row)
+    ensures committed { (k : RowValue) → committed_part parts.new.entries k ≡ committed_part parts.old.entries k }
+    ensures pending { (k : RowValue) → pending_part parts.new.entries k ≡ (if same_row k key.now then committed_part parts.old.entries k else pending_part parts.old.entries k) }
+{
+    if let Some(part) = parts.get_mut(key) {
+        part.abort();
+    }
+}
+
+// Takes a part without rows out.
+fn drop_empty(parts: &mut BTreeMap<Row, HeldSet>, key: &Row)
+    ensures committed { (k : RowValue) → committed_part parts.new.entries k ≡ committed_part parts.old.entries k }
+    ensures pending { (k : RowValue) → pending_part parts.new.entries k ≡ pending_part parts.old.entries k }
+{
+    let Some(part) = parts.get(key) else {
+        return;
+    };
+    if part.is_empty() {
+        let _ = parts.remove(key);
+    }
+}
