@@ -1,0 +1,5 @@
+mod ListedKeys
+mod RunningSums
+mod MadeRows
+mod SelectOutputs
+mod ListedParts
