@@ -1,0 +1,5 @@
+pub mod Stepping
+pub mod Pairs
+pub mod Evaluated
+pub mod Next
+pub mod Graphs

@@ -1,0 +1,84 @@
+//! One step of a plan.
+ghost use Rattle.std.specs.Prelude.{◌≡◌, ◌<◌, ◌↔◌, IfErr, List, OnOk, false, length, map, true};
+ghost use Rattle.datasets.specs.Dataset.{Dataset};
+ghost use Rattle.dataflow.specs.Changes.{changes_at as changes_of_step, right_changes};
+ghost use Rattle.dataflow.specs.Evaluation.{step_fits};
+ghost use Rattle.dataflow.specs.Standing.{ListsOutput, MayStep, OfInputs};
+ghost use Rattle.dataflow.specs.Wiring.{AreWired, RightBefore, wire_at};
+ghost use Rattle.weighted_set.specs.declared.part_op.OpFault.TheVariants as fault;
+
+use crate::wire::Wire;
+use std::sync::ledger::Ledger;
+use steps::Steps;
+use weighted_set::{Change, OpFault, Operator};
+
+/// The changes of a step: of a source, which are never copied, or of the output of an operator.
+pub fn changes_at<'a>(
+    wires: &[Wire],
+    sources: &[&'a [Change]],
+    lists: &'a [Vec<Change>],
+    at: usize,
+) -> &'a [Change]
+    requires wired { AreWired wires.now (length sources.now) }
+    requires within { at < length wires.now }
+    requires listed { at < length lists.now }
+    ensures { result.now ≡ changes_of_step wires.now (map (λ s. s.now) sources.now) (map (λ l. l.items) lists.now) at }
+{
+    match wires[at] {
+        Wire::Source(source) => sources[source],
+        Wire::Of { .. } => lists[at].as_slice(),
+    }
+}
+
+// The changes of a right input, none where it is absent.
+fn right_changes<'a>(
+    wires: &[Wire],
+    sources: &[&'a [Change]],
+    lists: &'a [Vec<Change>],
+    at: Option<usize>,
+) -> &'a [Change]
+    requires wired { AreWired wires.now (length sources.now) }
+    requires within { length lists.now < length wires.now }
+    requires listed { RightBefore (length lists.now) at }
+    ensures { result.now ≡ right_changes wires.now (map (λ s. s.now) sources.now) (map (λ l. l.items) lists.now) at }
+{
+    match at {
+        Some(at) => changes_at(wires, sources, lists, at),
+        None => &[],
+    }
+}
+
+/// Makes the changes of the inputs of the step at a place pending, and lists those of its output. `lists` has the
+/// lists of the steps before. `out` stays as it is for a source.
+pub fn prepare_step<N: Operator, L: Ledger>(
+    node: &mut N,
+    wires: &[Wire],
+    sources: &[&[Change]],
+    lists: &[Vec<Change>],
+    at: usize,
+    out: &mut Vec<Change>,
+    steps: &mut Steps<L>,
+) -> Result<(), OpFault>
+    requires wired { AreWired wires.now (length sources.now) }
+    requires within { at < length wires.now }
+    requires listed { length lists.now ≡ at }
+    requires idle { N.is_pending node.old ≡ false }
+    requires inputs { (As : List Dataset) × ((Bs : List Dataset) × MayStep N.Operator node.old wires.now (map (λ s. s.now) sources.now) (map (λ l. l.items) lists.now) As Bs (wire_at wires.now at)) }
+    ensures output { OnOk result ((As Bs : List Dataset) → MayStep N.Operator node.old wires.now (map (λ s. s.now) sources.now) (map (λ l. l.items) lists.now) As Bs (wire_at wires.now at) → ListsOutput (N.output node.old) out.new.items As Bs (wire_at wires.now at)) }
+    ensures pending { OnOk result ((As Bs : List Dataset) → MayStep N.Operator node.old wires.now (map (λ s. s.now) sources.now) (map (λ l. l.items) lists.now) As Bs (wire_at wires.now at) → OfInputs (λ A B. (N.is_pending node.new ≡ true) × N.StandsPending node.new A B) (wire_at wires.now at) Bs) }
+    ensures fits { OnOk result ((As Bs : List Dataset) → MayStep N.Operator node.old wires.now (map (λ s. s.now) sources.now) (map (λ l. l.items) lists.now) As Bs (wire_at wires.now at) → step_fits (N.fits node.old) (wire_at wires.now at) Bs ≡ true) }
+    ensures range { IfErr result (λ e. e ≡ fault.Range → (As Bs : List Dataset) → MayStep N.Operator node.old wires.now (map (λ s. s.now) sources.now) (map (λ l. l.items) lists.now) As Bs (wire_at wires.now at) → step_fits (N.fits node.old) (wire_at wires.now at) Bs ≡ false) }
+    ensures committed { (A B : Dataset) → N.StandsFor node.old A B → N.StandsFor node.new A B }
+    ensures same_output { N.output node.new ≡ N.output node.old }
+    ensures same_fits { N.fits node.new ≡ N.fits node.old }
+    ensures same_takes { (A B : Dataset) → N.Takes node.old A B ↔ N.Takes node.new A B }
+{
+    match wires[at] {
+        Wire::Source(_) => Ok(()),
+        Wire::Of { left, right } => {
+            let left_list = changes_at(wires, sources, lists, left);
+            let right_list = right_changes(wires, sources, lists, right);
+            node.prepare(left_list, right_list, out, steps)
+        }
+    }
+}
