@@ -1,0 +1,31 @@
+use Rattle.std.proofs.Common.{◌≡◌, ◌∙◌, ap, true, take, sym, subst}
+use Rattle.std.specs.Prelude.{List}
+use Rattle.datasets.specs.Entries.{Row, has_row}
+use Rattle.flow_graph.specs.Staging.{AreStaged, outputs_by}
+use Rattle.weighted_set.specs.Parts.{committed_part, pending_part}
+use Rattle.std.proofs.lemmas.List.{take_all}
+use Rattle.std.proofs.lemmas.Result.{err_from_is_err_and}
+use Rattle.flow_graph.proofs.Pending.{each_more, take_item}
+use Rattle.flow_graph.proofs.outputs.stage_keys.Goals as goal
+
+pub loop-key-preserved : goal.loop-key-preserved
+loop-key-preserved g c =
+    let op = c.args.op.now in
+    let left = c.args.left.now in
+    let right = c.args.right.now in
+    let keys = c.args.keys.now in
+    let o = g.O.PartOp in
+    let more = take_item keys c.loop-key.key-index c.key-item.result c.loop-key-test.true c.key-item.is in
+    let P : List Row → Type 0 = λ done. AreStaged (o.owner op) (outputs_by (o.outputs op) (committed_part left) (committed_part right)) (outputs_by (o.outputs op) (pending_part left) (pending_part right)) done c.stage_key.new.table.entries in
+    record {
+      staged = subst P (sym more) (c.in_ok-stage_key.ensures.staged _ c.loop-key.invariant.staged);
+      fits = λ k h. each_more (λ k. o.part_fits op k (pending_part left k) (pending_part right k) ≡ true) (take c.loop-key.key-index keys) c.key-item.result c.loop-key.invariant.fits c.in_ok-stage_key.ensures.fits k (ap (λ ks. has_row ks k) (sym more) ∙ h);
+    }
+
+pub returns-in_err-stage_key-clause-range : goal.returns-in_err-stage_key-clause-range
+returns-in_err-stage_key-clause-range g c =
+    let p = err_from_is_err_and c.from_residual.result c.from_residual.ensures.1 in
+    rw (p.1, p.2) (λ e before. (c.key-item.result, c.in_err-stage_key.ensures.range e (before c.key-item.result)))
+
+pub returns-clause-fits : goal.returns-clause-fits
+returns-clause-fits g c k h = c.loop-key.invariant.fits k (ap (λ ks. has_row ks k) (take_all c.loop-key.key-index c.args.keys.now c.loop-key-test.false) ∙ h)

@@ -1,0 +1,9 @@
+//! Operators that are kept up to date as their inputs change.
+#![tactic(auto)]
+
+mod inputs;
+mod keyed;
+mod outputs;
+
+pub use keyed::Keyed;
+pub use std::alloc::AllocError as Memory;
