@@ -33,12 +33,10 @@ rows_of_changes TakesRow A B cs before after h k d below = row_of_change _ (h.ea
           | false ↦ λ p. before c.row (other_if_not_is_zero (at A c.row) p)
         ] refl
 
--- where nothing is pending, the stores hold the parts alone
-pub settled_first : (left_keys right_keys : Row → Dataset) (left_store right_store : StoreParts) (pending : Bool) (Takes : Dataset → Dataset → Type 0) (fits : Dataset → Dataset → Bool) (left right : List Change) (A B C D : Dataset) → pending ≡ false
-    → MayBecome (λ A B. HoldParts left_keys right_keys (committed_part left_store) (committed_part right_store) A B × (pending ≡ false → AreSettled left_store right_store)) Takes fits left right A B C D
-    → MayBecome (HoldSettled left_keys right_keys left_store right_store) Takes fits left right A B C D
-settled_first left_keys right_keys left_store right_store pending Takes fits left right A B C D idle m = record {
-  stands = record { held = m.stands.0; settled = m.stands.1 idle };
+-- what stands for the inputs may be said in another way
+pub MayBecome-restated : {StandsFor Restated Takes : Dataset → Dataset → Type 0} {fits : Dataset → Dataset → Bool} {left right : List Change} {A B C D : Dataset} → MayBecome StandsFor Takes fits left right A B C D → Restated A B → MayBecome Restated Takes fits left right A B C D
+MayBecome-restated m restated = record {
+  stands = restated;
   left_changes = m.left_changes;
   right_changes = m.right_changes;
   left_in_range = m.left_in_range;
@@ -47,6 +45,12 @@ settled_first left_keys right_keys left_store right_store pending Takes fits lef
   takes_before = m.takes_before;
   takes_after = m.takes_after;
 }
+
+-- where nothing is pending, the stores hold the parts alone
+pub settled_first : (left_keys right_keys : Row → Dataset) (left_store right_store : StoreParts) (pending : Bool) (Takes : Dataset → Dataset → Type 0) (fits : Dataset → Dataset → Bool) (left right : List Change) (A B C D : Dataset) → pending ≡ false
+    → MayBecome (λ A B. HoldParts left_keys right_keys (committed_part left_store) (committed_part right_store) A B × (pending ≡ false → AreSettled left_store right_store)) Takes fits left right A B C D
+    → MayBecome (HoldSettled left_keys right_keys left_store right_store) Takes fits left right A B C D
+settled_first left_keys right_keys left_store right_store pending Takes fits left right A B C D idle m = MayBecome-restated m (record { held = m.stands.0; settled = m.stands.1 idle })
 
 -- the laws of an operator that the engine needs
 pub record Laws (left_keys right_keys : Row → Dataset) (owner : Row → Row) (outputs : Row → Dataset → Dataset → Dataset) (part_fits : Row → Dataset → Dataset → Bool) (output : Dataset → Dataset → Dataset)

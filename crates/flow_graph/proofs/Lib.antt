@@ -1,3 +1,4 @@
 pub mod Pending
 pub mod Staged
 pub mod Engine
+pub mod WholeInputs

@@ -129,7 +129,7 @@ fn put_inputs<O: PartOp, L: Ledger>(
 }
 
 // Makes the changes of both inputs pending, and lists the changes of the output in row order.
-fn stage<O: PartOp, L: Ledger>(
+pub(crate) fn stage<O: PartOp, L: Ledger>(
     alloc: Global,
     op: &O,
     left_store: &mut PartStore,

@@ -4,6 +4,8 @@
 mod inputs;
 mod keyed;
 mod outputs;
+mod whole;
 
 pub use keyed::Keyed;
 pub use std::alloc::AllocError as Memory;
+pub use whole::Whole;

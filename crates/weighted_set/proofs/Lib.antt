@@ -6,3 +6,4 @@ pub mod Parts
 pub mod WeightSets
 pub mod Merged
 pub mod PartStores
+pub mod AllChanges

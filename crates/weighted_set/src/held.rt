@@ -1,16 +1,17 @@
 //! Rows with a committed and a pending weight each.
 ghost use Rattle.std.specs.Prelude.{[], ◌≡◌, ◌+◌, ◌<◌, ◌≤◌, IfOk, OnErr, OnOk, length, slice_get};
 ghost use Rattle.std.specs.Map.{lookup};
-ghost use Rattle.datasets.specs.Dataset.{at, rows, set_at};
+ghost use Rattle.datasets.specs.Dataset.{at, empty, rows, set_at};
 ghost use Rattle.datasets.specs.Entries.{is_zero as is_zero_ratio, row_count as row_count_of, same_row};
 ghost use Rattle.ratios.specs.Ratio.{zero_ratio};
-ghost use Rattle.weighted_set.specs.Changes.{entries_of};
+ghost use Rattle.weighted_set.specs.Changes.{IsChangeList, entries_of};
 ghost use Rattle.weighted_set.specs.Held.{PutsAt, committed_of, dataset_by, pending_of, weight_of};
 
 use crate::Memory;
-use crate::weighted::Weighted;
+use crate::weighted::{Change, Weighted};
 use frac_core::Frac;
 use record_text::Row;
+use std::alloc::Global;
 use std::collections::BTreeMap;
 use std::sync::ledger::Ledger;
 use steps::Steps;
@@ -162,4 +163,23 @@ pub fn read_rows<L: Ledger>(
         }
     }
     Ok(())
+}
+
+/// The changes that make the rows with a committed weight of no rows.
+pub fn all_changes(alloc: Global, table: &BTreeMap<Row, Held>) -> Result<Vec<Change>, Memory>
+    ensures { IfOk result (λ changes. IsChangeList changes.items empty (committed_of table.now.entries)) }
+{
+    let mut changes = Vec::new(alloc);
+    for (row, held) in table {
+        let weight = held.committed;
+        if !is_zero(weight) {
+            let row = row.try_copy()?;
+            changes.push(Change {
+                row,
+                old: Frac::zero(),
+                new: weight,
+            })?;
+        }
+    }
+    Ok(changes)
 }

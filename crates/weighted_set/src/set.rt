@@ -2,12 +2,14 @@
 ghost use Rattle.std.specs.Prelude.{◌≡◌, ◌+◌, ◌<◌, ◌≤◌, IfErr, IfOk, OnErr, OnOk, length, slice_get, true};
 ghost use Rattle.datasets.specs.Dataset.{at as weight_at, empty, rows, set_at};
 ghost use Rattle.weighted_set.specs.Adding.{AreChangesOfAdding, IsAddFault};
-ghost use Rattle.weighted_set.specs.Changes.{AreChangesOf, applied, entries_of};
+ghost use Rattle.weighted_set.specs.Changes.{AreChangesOf, IsChangeList, applied, entries_of};
 ghost use Rattle.weighted_set.specs.Held.{AllInRange, viewed};
 
 use crate::Memory;
 use crate::adding::{AddFault, add_all, changes_in, first_negative};
-use crate::held::{Held, View, abort_row, commit_row, entry_at, held_at, put, read_rows};
+use crate::held::{
+    Held, View, abort_row, all_changes, commit_row, entry_at, held_at, put, read_rows,
+};
 use crate::weighted::{Change, Weighted};
 use frac_core::Frac;
 use record_text::Row;
@@ -77,6 +79,14 @@ impl HeldSet {
         ensures { slice_get self.now.committed.entries at ≡ Some (result.0.now, result.1) }
     {
         entry_at(&self.table, at)
+    }
+
+    /// All rows, as the changes that make them of no rows.
+    pub fn all_changes(&self) -> Result<Vec<Change>, Memory>
+        ensures changes { IfOk result (λ changes. IsChangeList changes.items empty self.now.committed) }
+        ensures in_range { AllInRange self.now.committed }
+    {
+        all_changes(self.alloc, &self.table)
     }
 
     /// The changes that adding weights one by one would make, in row order, without those of rows that end as

@@ -1,0 +1,49 @@
+use Rattle.std.proofs.Common.{ap, ◌∙◌}
+use Rattle.std.proofs.lemmas.Result.{IfErr-weaker, IfOk-weaker, on_ok_weaker}
+use Rattle.datasets.specs.Dataset.{at}
+use Rattle.flow_graph.proofs.WholeInputs.{changes_of_committed, made_anew}
+use Rattle.flow_graph.proofs.whole.work_out.Goals as goal
+
+pub prepare-requires-clause-changes : goal.prepare-requires-clause-changes
+prepare-requires-clause-changes g c =
+    let m = c.requires.inputs.1.1.1.1 in
+    (changes_of_committed c.args.left.now c.args.left_input.now _ _ m.stands.left_is m.left_changes).0
+
+pub prepare-requires-2-clause-changes : goal.prepare-requires-2-clause-changes
+prepare-requires-2-clause-changes g c =
+    let m = c.requires.inputs.1.1.1.1 in
+    (changes_of_committed c.args.right.now c.args.right_input.now _ _ m.stands.right_is m.right_changes).0
+
+pub parts_of-requires : goal.parts_of-requires
+parts_of-requires g c x n =
+    let m = c.requires.inputs.1.1.1.1 in
+    (g.met.O.PartOp.takes_rows c.args.op.now _ _ x m.takes_before).0 (λ z. n (ap (λ A. at A x) (c.prepare.ensures.committed ∙ m.stands.left_is) ∙ z))
+
+pub parts_of-requires-2 : goal.parts_of-requires-2
+parts_of-requires-2 g c x n =
+    let m = c.requires.inputs.1.1.1.1 in
+    (g.met.O.PartOp.takes_rows c.args.op.now _ _ x m.takes_before).1 (λ z. n (ap (λ A. at A x) (c.prepare-2.ensures.committed ∙ m.stands.right_is) ∙ z))
+
+pub stage-requires : goal.stage-requires
+stage-requires g c =
+    let r = c.requires.inputs in
+    (r.0, (r.1.0, (r.1.1.0, (r.1.1.1.0, made_anew c.in_ok-left_parts.ensures c.in_ok-right_parts.ensures c.prepare.ensures.committed c.prepare-2.ensures.committed r.1.1.1.1))))
+
+pub returns-clause-changes : goal.returns-clause-changes
+returns-clause-changes g c =
+    IfOk-weaker c.stage.result _ _ (λ changes h A B C D m. h A B C D (made_anew c.in_ok-left_parts.ensures c.in_ok-right_parts.ensures c.prepare.ensures.committed c.prepare-2.ensures.committed m)) c.stage.ensures.changes
+
+pub returns-clause-pending : goal.returns-clause-pending
+returns-clause-pending g c =
+    on_ok_weaker c.stage.result (λ _ A B C D m. record {
+      left_is = c.in_ok-prepare.ensures.ok ∙ (changes_of_committed c.args.left.now c.args.left_input.now A C m.stands.left_is m.left_changes).1;
+      right_is = c.in_ok-prepare-2.ensures.ok ∙ (changes_of_committed c.args.right.now c.args.right_input.now B D m.stands.right_is m.right_changes).1;
+    }) c.stage.ensures.fits
+
+pub returns-clause-fits : goal.returns-clause-fits
+returns-clause-fits g c =
+    on_ok_weaker c.stage.result (λ h A B C D m. h A B C D (made_anew c.in_ok-left_parts.ensures c.in_ok-right_parts.ensures c.prepare.ensures.committed c.prepare-2.ensures.committed m)) c.stage.ensures.fits
+
+pub returns-clause-range : goal.returns-clause-range
+returns-clause-range g c =
+    IfErr-weaker c.stage.result _ _ (λ e h range A B C D m. h range A B C D (made_anew c.in_ok-left_parts.ensures c.in_ok-right_parts.ensures c.prepare.ensures.committed c.prepare-2.ensures.committed m)) c.stage.ensures.range

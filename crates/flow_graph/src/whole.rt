@@ -1,0 +1,166 @@
+//! The plain engine, which works the whole output out anew at each change.
+ghost use Rattle.std.specs.Prelude.{◌≡◌, ◌≢◌, IfErr, IfOk, OnOk, false, true};
+ghost use Rattle.datasets.specs.Dataset.{Dataset, at, empty};
+ghost use Rattle.datasets.specs.Entries.{Row};
+ghost use Rattle.ratios.specs.Ratio.{zero_ratio};
+ghost use Rattle.weighted_set.specs.Changes.{IsChangeList};
+ghost use Rattle.weighted_set.specs.Standing.{MayBecome};
+ghost use Rattle.weighted_set.specs.declared.part_op.OpFault.TheVariants as fault;
+ghost use Rattle.weighted_set.specs.declared.part_op.Side.TheVariants.{Left, Right};
+ghost use Rattle.flow_graph.specs.WholeInputs.{AreCommitted, ArePending, HaveSettled, IsMadeOf};
+
+use crate::Memory;
+use crate::inputs::put_changes;
+use crate::keyed::stage;
+use std::alloc::Global;
+use std::sync::ledger::Ledger;
+use steps::Steps;
+use weighted_set::{Change, HeldSet, OpFault, Operator, PartOp, PartStore, Side};
+
+/// An operator with its whole inputs. At each change the parts of all keys are made anew, and only `pending`
+/// and the inputs are kept.
+#[derive(Drop)]
+pub struct Whole<O: PartOp> {
+    op: O,
+    left: HeldSet,
+    right: HeldSet,
+    pending: bool,
+    alloc: Global,
+}
+
+impl<O: PartOp> Whole<O> {
+    /// The operator with two empty inputs.
+    pub fn new(op: O, alloc: Global) -> Whole<O>
+        ensures stands { ⟦<Whole<O> as Operator>⟧.StandsFor result empty empty }
+        ensures idle { ⟦<Whole<O> as Operator>⟧.is_pending result ≡ false }
+        ensures op { result.op ≡ op }
+    {
+        Whole {
+            op,
+            left: HeldSet::new(alloc),
+            right: HeldSet::new(alloc),
+            pending: false,
+            alloc,
+        }
+    }
+}
+
+impl<O: PartOp> Operator for Whole<O> {
+    ghost StandsFor = { λ it A B. AreCommitted it.left it.right A B × (it.pending ≡ false → HaveSettled it.left it.right) };
+
+    ghost StandsPending = { λ it A B. ArePending it.left it.right A B };
+
+    ghost is_pending = { λ it. it.pending };
+
+    ghost Takes = { λ it. O.Takes it.op };
+
+    ghost fits = { λ it. O.fits it.op };
+
+    ghost output = { λ it. O.output it.op };
+
+    fn prepare<L: Ledger>(
+        &mut self,
+        left: &[Change],
+        right: &[Change],
+        out: &mut Vec<Change>,
+        steps: &mut Steps<L>,
+    ) -> Result<(), OpFault> {
+        out.clear();
+        self.pending = true;
+        match work_out(
+            self.alloc,
+            &self.op,
+            &mut self.left,
+            &mut self.right,
+            left,
+            right,
+            steps,
+        ) {
+            Ok(changes) => {
+                *out = changes;
+                Ok(())
+            }
+            Err(fault) => {
+                self.abort();
+                Err(fault)
+            }
+        }
+    }
+
+    fn commit(&mut self) {
+        if self.pending {
+            self.left.commit();
+            self.right.commit();
+            self.pending = false;
+        }
+    }
+
+    fn abort(&mut self) {
+        self.left.abort();
+        self.right.abort();
+        self.pending = false;
+    }
+
+    ghost output_in_range = { λ it. O.output_in_range it.op };
+}
+
+// The parts of an input.
+fn parts_of<O: PartOp, L: Ledger>(
+    alloc: Global,
+    op: &O,
+    side: Side,
+    input: &HeldSet,
+    steps: &mut Steps<L>,
+) -> Result<PartStore, Memory>
+    requires { (x : Row) → at input.now.committed x ≢ zero_ratio → O.TakesRow op.now side x }
+    ensures { IfOk result (IsMadeOf (O.keys op.now side) input.now.committed) }
+{
+    let rows = input.all_changes()?;
+    let mut store = PartStore::new(alloc);
+    let mut keys = Vec::new(alloc);
+    put_changes(
+        alloc,
+        op,
+        side,
+        &mut store,
+        rows.as_slice(),
+        &mut keys,
+        steps,
+    )?;
+    store.commit();
+    Ok(store)
+}
+
+// Makes the changes of both inputs pending, and lists the changes of the output in row order.
+fn work_out<O: PartOp, L: Ledger>(
+    alloc: Global,
+    op: &O,
+    left_input: &mut HeldSet,
+    right_input: &mut HeldSet,
+    left: &[Change],
+    right: &[Change],
+    steps: &mut Steps<L>,
+) -> Result<Vec<Change>, OpFault>
+    requires settled { HaveSettled left_input.old right_input.old }
+    requires inputs { (A : Dataset) × ((B : Dataset) × ((C : Dataset) × ((D : Dataset) × MayBecome (AreCommitted left_input.old right_input.old) (O.Takes op.now) (O.fits op.now) left.now right.now A B C D))) }
+    ensures changes { IfOk result (λ changes. (A B C D : Dataset) → MayBecome (AreCommitted left_input.old right_input.old) (O.Takes op.now) (O.fits op.now) left.now right.now A B C D → IsChangeList changes.items (O.output op.now A B) (O.output op.now C D)) }
+    ensures pending { OnOk result ((A B C D : Dataset) → MayBecome (AreCommitted left_input.old right_input.old) (O.Takes op.now) (O.fits op.now) left.now right.now A B C D → ArePending left_input.new right_input.new C D) }
+    ensures fits { OnOk result ((A B C D : Dataset) → MayBecome (AreCommitted left_input.old right_input.old) (O.Takes op.now) (O.fits op.now) left.now right.now A B C D → O.fits op.now C D ≡ true) }
+    ensures range { IfErr result (λ e. e ≡ fault.Range → (A B C D : Dataset) → MayBecome (AreCommitted left_input.old right_input.old) (O.Takes op.now) (O.fits op.now) left.now right.now A B C D → O.fits op.now C D ≡ false) }
+    ensures left_committed { left_input.new.committed ≡ left_input.old.committed }
+    ensures right_committed { right_input.new.committed ≡ right_input.old.committed }
+{
+    left_input.prepare(left)?;
+    right_input.prepare(right)?;
+    let mut left_parts = parts_of(alloc, op, Side::Left, left_input, steps)?;
+    let mut right_parts = parts_of(alloc, op, Side::Right, right_input, steps)?;
+    stage(
+        alloc,
+        op,
+        &mut left_parts,
+        &mut right_parts,
+        left,
+        right,
+        steps,
+    )
+}
