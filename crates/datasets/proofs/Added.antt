@@ -1,12 +1,14 @@
 -- What holds of every weight once rows are added one by one.
-use Rattle.std.specs.Prelude.{◌≡◌, ◌≢◌, ℕ, ◌+◌, Bool, true, false, not, cond, ◌||◌, List, [], ◌∷◌, Option, None, Some, ℤ, ◌≤ℤ◌, ◌<ℤ◌, int_lt, refl}
+use Rattle.std.specs.Prelude.{◌≡◌, ℕ, ◌+◌, true, false, not, cond, ◌||◌, [], ◌∷◌, None, ℤ, ◌≤ℤ◌, ◌<ℤ◌, int_lt, refl}
 use Rattle.std.specs.List.{position_from}
 use Rattle.std.specs.Ordering.{int_cmp, is_lt}
 use Rattle.std.specs.declared.cmp.Ordering.TheVariants.{Less, Equal, Greater}
 use Rattle.std.proofs.Common.{sym, ap, subst, ◌∙◌, true≢false, arith}
+use Rattle.std.proofs.lemmas.Bool.{not-false, or_parts}
 use Rattle.std.proofs.lemmas.Int.{ints, by_lt_z}
-use Rattle.ratios.specs.Ratio.{Ratio, RatioLe, ratio_add, ratio_cmp, zero_ratio}
+use Rattle.ratios.specs.Ratio.{Ratio, RatioLe, ratio_add, zero_ratio}
 use Rattle.ratios.specs.Range.{in_range, InRange}
+use Rattle.ratios.proofs.Sums.{first_passes}
 use Rattle.datasets.specs.Entries.{Row, same_row, has_row, Entries, rows_of}
 use Rattle.datasets.specs.Dataset.{Dataset, at, add_at, with_added, running_weights, first_weight_out_of_range, is_negative, first_negative}
 use Rattle.datasets.proofs.Rows.{same_row-equal, same_row-itself}
@@ -39,15 +41,11 @@ with_added-keeps P A (e ∷ es) before each = with_added-keeps P (add_at e.0 e.1
 
 -- ---- the running weights
 
-first_in : (b : Bool) (i : ℕ) (rest : Option ℕ) → cond (not b) (Some i) rest ≡ None → (b ≡ true) × (rest ≡ None)
-first_in true i rest e = (refl, e)
-first_in false i rest e = cc
-
 in_range_from : (i : ℕ) (A : Dataset) (es : Entries) → position_from (λ q. not (in_range q)) i (running_weights A es) ≡ None → EachAdded (λ _ q. InRange q) A es
 in_range_from i A [] none = tt
 in_range_from i A (e ∷ es) none =
-    let p = first_in (in_range (ratio_add (at A e.0) e.1)) i (position_from (λ q. not (in_range q)) (i + 1) (running_weights (add_at e.0 e.1 A) es)) none in
-    (p.0, in_range_from (i + 1) (add_at e.0 e.1 A) es p.1)
+    let p = first_passes (not (in_range (ratio_add (at A e.0) e.1))) i (position_from (λ q. not (in_range q)) (i + 1) (running_weights (add_at e.0 e.1 A) es)) none in
+    (not-false (in_range (ratio_add (at A e.0) e.1)) p.0, in_range_from (i + 1) (add_at e.0 e.1 A) es p.1)
 
 -- where no running weight is out of range, none is at the end
 pub with_added-in_range : (A : Dataset) (es : Entries) → ((x : Row) → InRange (at A x)) → first_weight_out_of_range A es ≡ None → (x : Row) → InRange (at (with_added A es) x)
@@ -55,25 +53,17 @@ with_added-in_range A es before none = with_added-keeps (λ _ q. InRange q) A es
 
 -- ---- signs
 
-either_false : (a b : Bool) → (a || b) ≡ false → (a ≡ false) × (b ≡ false)
-either_false true b e = absurd (true≢false e)
-either_false false b e = (refl, e)
-
 -- a row that isn't added keeps its weight
 pub with_added-other : (A : Dataset) (es : Entries) (x : Row) → has_row (rows_of es) x ≡ false → at (with_added A es) x ≡ at A x
 with_added-other A [] x other = refl
 with_added-other A (e ∷ es) x other =
-    let p = either_false (same_row x e.0) (has_row (rows_of es) x) other in
+    let p = or_parts (same_row x e.0) (has_row (rows_of es) x) other in
     with_added-other (add_at e.0 e.1 A) es x p.1 ∙ added_other e.0 e.1 A x p.0
-
-first_not : (b : Bool) (i : ℕ) (rest : Option ℕ) → cond b (Some i) rest ≡ None → (b ≡ false) × (rest ≡ None)
-first_not true i rest e = cc
-first_not false i rest e = (refl, e)
 
 none_negative : (B : Dataset) (i : ℕ) (es : Entries) (x : Row) → position_from (λ e. is_negative (at B e.0)) i es ≡ None → has_row (rows_of es) x ≡ true → is_negative (at B x) ≡ false
 none_negative B i [] x none there = absurd (true≢false (sym there))
 none_negative B i (e ∷ es) x none there =
-    let p = first_not (is_negative (at B e.0)) i (position_from (λ e. is_negative (at B e.0)) (i + 1) es) none in
+    let p = first_passes (is_negative (at B e.0)) i (position_from (λ e. is_negative (at B e.0)) (i + 1) es) none in
     elim (same_row x e.0) as (λ b. same_row x e.0 ≡ b → (b || has_row (rows_of es) x) ≡ true → is_negative (at B x) ≡ false) [
       | true ↦ λ same here. ap (λ (y : Row). is_negative (at B y)) (same_row-equal x e.0 same) ∙ p.0
       | false ↦ λ other here. none_negative B (i + 1) es x p.1 here

@@ -58,7 +58,8 @@ unfolding set_at
 length-set_at x w A = count-set_in x w A.entries A.rising A.none_zero
 
 -- ---- which entries make a dataset
-abbrev weighing : Entries → Entries
+-- the entries whose weight isn't 0
+abbrev pub weighing : Entries → Entries
 weighing es = filter (λ e. not (is_zero e.1)) es
 
 set_in-below : (x : Row) (w : Ratio) (es : Entries) → IsBelow x es → set_in x w es ≡ in_front x w es

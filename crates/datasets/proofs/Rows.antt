@@ -1,27 +1,24 @@
 -- Rows that tie are one, and the one ratio of numerator 0 is 0.
-use Rattle.std.specs.Prelude.{◌≡◌, ℤ, pos, ◌*ℤ◌, ℕ, Bool, true, false, refl}
+use Rattle.std.specs.Prelude.{◌≡◌, ℤ, pos, ◌*ℤ◌, ℕ, true, false, refl}
 use Rattle.std.specs.FinMap.{int_cmp-IsAntisymmetric}
 use Rattle.std.specs.Ordering.{int_cmp, int_eq, is_eq, ordering_reverse}
 use Rattle.std.specs.declared.cmp.Ordering.{Ordering}
 use Rattle.std.specs.declared.cmp.Ordering.TheVariants.{Less, Equal, Greater}
 use Rattle.std.proofs.Common.{sym, ap, ◌∙◌, true≢false, arith}
+use Rattle.std.proofs.lemmas.Bool.{false_from_ne_true}
 use Rattle.std.proofs.lemmas.Cmp.{tied_itself}
 use Rattle.std.proofs.lemmas.Int.{ints}
 use Rattle.ratios.specs.Ratio.{Ratio, zero_ratio}
+use Rattle.ratios.proofs.Order.{tie_from_test}
 use Rattle.ratios.proofs.Over.{same_cross}
 use Rattle.record_text.specs.Order.{row_cmp}
 use Rattle.record_text.specs.OrderLaws.{row_total, row_tie}
 use Rattle.datasets.specs.Entries.{Row, same_row, is_zero}
 use Rattle.datasets.specs.Kept.{is_zero-zero_ratio}
 
-tied : (o : Ordering) → is_eq o ≡ true → o ≡ Equal
-tied Less e = absurd (true≢false (sym e))
-tied Equal e = refl
-tied Greater e = absurd (true≢false (sym e))
-
 -- ---- rows
 pub same_row-equal : (x y : Row) → same_row x y ≡ true → x ≡ y
-same_row-equal x y e = row_tie x y (tied (row_cmp x y) e)
+same_row-equal x y e = row_tie x y (tie_from_test (row_cmp x y) e)
 
 pub same_row-itself : (x : Row) → same_row x x ≡ true
 same_row-itself x = ap is_eq (tied_itself row_total x)
@@ -42,7 +39,7 @@ different_if_greater x y p = ap is_eq p
 
 -- ---- 0
 whole_zero : (n : ℤ) → int_eq n (pos 0) ≡ true → n ≡ pos 0
-whole_zero n e = int_cmp-IsAntisymmetric n (pos 0) (tied (int_cmp n (pos 0)) e)
+whole_zero n e = int_cmp-IsAntisymmetric n (pos 0) (tie_from_test (int_cmp n (pos 0)) e)
 
 zero_num : zero_ratio.num ≡ pos 0
 unfolding zero_ratio
@@ -56,11 +53,7 @@ zero_if_is_zero q e = same_cross q zero_ratio (zero_cross q.num zero_ratio.num z
 
 -- a ratio other than 0 fails the test, and one that fails it is not 0
 pub is_zero-other : (q : Ratio) → (q ≡ zero_ratio → ⊥) → is_zero q ≡ false
-is_zero-other q n = fails (is_zero q) (λ e. n (zero_if_is_zero q e))
-  where
-    fails : (b : Bool) → (b ≡ true → ⊥) → b ≡ false
-    fails true h = absurd (h refl)
-    fails false h = refl
+is_zero-other q n = false_from_ne_true (is_zero q) (λ e. n (zero_if_is_zero q e))
 
 pub other_if_not_is_zero : (q : Ratio) → is_zero q ≡ false → q ≡ zero_ratio → ⊥
 other_if_not_is_zero q f e = true≢false (sym is_zero-zero_ratio ∙ ap is_zero (sym e) ∙ f)

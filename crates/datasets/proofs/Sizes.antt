@@ -1,23 +1,21 @@
 -- Norms and distances.
-use Rattle.std.specs.Prelude.{◌≡◌, zero, suc, List, [], ◌∷◌, map, All, refl}
+use Rattle.std.specs.Prelude.{◌≡◌, List, [], ◌∷◌, map, All, refl}
 use Rattle.std.proofs.Common.{sym, ap, subst, ◌∙◌, arith}
+use Rattle.std.proofs.lemmas.List.Elements.{All-cons}
 use Rattle.ratios.specs.Ratio.{Ratio, RatioLe, ratio_abs, ratio_add, ratio_sub, zero_ratio}
 use Rattle.ratios.specs.Sums.{ratio_sum}
 use Rattle.ratios.proofs.Additive.{ratio_abs_nonnegative, ratio_abs_zero, ratio_add_le, ratio_add_zero, ratio_le_refl, ratio_sub_itself}
 use Rattle.ratios.proofs.SumLaws.{ratio_sum-cons}
 use Rattle.datasets.specs.Dataset.{Dataset, at, rows_of_either, dist}
 
-abbrev IsNonnegative : Ratio → Type 0
+-- q is not below 0
+abbrev pub IsNonnegative : Ratio → Type 0
 IsNonnegative q = RatioLe zero_ratio q
-
-cons_nonnegative : (q : Ratio) (qs : List Ratio) → IsNonnegative q → All IsNonnegative qs → All IsNonnegative (q ∷ qs)
-cons_nonnegative q qs h k zero d lt = h
-cons_nonnegative q qs h k (suc n) d lt = k n d (omega arith)
 
 -- absolute values are not below 0
 pub abs_nonnegative : {X : Type 0} (f : X → Ratio) (xs : List X) → All (RatioLe zero_ratio) (map (λ x. ratio_abs (f x)) xs)
 abs_nonnegative f [] = λ k d lt. absurd (omega arith)
-abs_nonnegative f (x ∷ xs) = cons_nonnegative (ratio_abs (f x)) (map (λ x. ratio_abs (f x)) xs) (ratio_abs_nonnegative (f x)) (abs_nonnegative f xs)
+abs_nonnegative f (x ∷ xs) = All-cons IsNonnegative (ratio_abs (f x)) (map (λ x. ratio_abs (f x)) xs) (ratio_abs_nonnegative (f x)) (abs_nonnegative f xs)
 
 -- nor is their sum
 pub sum_nonnegative : {X : Type 0} (f : X → Ratio) (xs : List X) → RatioLe zero_ratio (ratio_sum (map (λ x. ratio_abs (f x)) xs))

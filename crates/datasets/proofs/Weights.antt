@@ -5,12 +5,13 @@ use Rattle.std.specs.Map.{lookup}
 use Rattle.std.specs.Ordering.{is_eq, match_ordering}
 use Rattle.std.specs.declared.cmp.Ordering.TheVariants.{Less, Equal, Greater}
 use Rattle.std.proofs.Common.{sym, ap, subst, ◌∙◌}
+use Rattle.std.proofs.lemmas.Bool.{or_parts}
 use Rattle.ratios.specs.Ratio.{Ratio, ratio_add, zero_ratio}
 use Rattle.record_text.specs.Order.{row_cmp}
 use Rattle.record_text.specs.OrderLaws.{row_tie}
-use Rattle.datasets.specs.Entries.{Row, same_row, Entries, rows_of, AreRising, weight_in, is_zero, in_front, set_in}
+use Rattle.datasets.specs.Entries.{Row, same_row, has_row, Entries, rows_of, AreRising, weight_in, is_zero, in_front, set_in}
 use Rattle.datasets.specs.Kept.{IsBelow, IsBelow-lower}
-use Rattle.datasets.specs.Dataset.{Dataset, at, empty, set_at, add_at, dataset_of}
+use Rattle.datasets.specs.Dataset.{Dataset, at, rows, empty, set_at, add_at, dataset_of}
 use Rattle.datasets.proofs.Rows.{same_row-equal, zero_if_is_zero}
 
 -- the weight in entries, by the first of them
@@ -20,6 +21,16 @@ weight_in-cons x e es = first (same_row x e.0)
     first : (b : Bool) → unwrap_or (cond b (Some e.1) (lookup (same_row x) es)) zero_ratio ≡ cond b e.1 (weight_in es x)
     first true = refl
     first false = refl
+
+-- a row that has no entry weighs 0
+pub weight_in-absent : (es : Entries) (x : Row) → has_row (rows_of es) x ≡ false → weight_in es x ≡ zero_ratio
+weight_in-absent [] x h = refl
+weight_in-absent (e ∷ es) x h =
+    let p = or_parts (same_row x e.0) (has_row (rows_of es) x) h in
+    weight_in-cons x e es ∙ ap (λ b. cond b e.1 (weight_in es x)) p.0 ∙ weight_in-absent es x p.1
+
+pub at-absent : (A : Dataset) (x : Row) → has_row (rows A) x ≡ false → at A x ≡ zero_ratio
+at-absent A x h = weight_in-absent A.entries x h
 
 -- a row below all of them has no entry
 pub weight_in-below : (x : Row) (es : Entries) → IsBelow x es → weight_in es x ≡ zero_ratio

@@ -1,5 +1,5 @@
 -- What reading the digits of a text rests on.
-use Rattle.std.proofs.Common.{ℕ, suc, [], ◌∷◌, ap, ◌∙◌, ◌++◌, Some, ◌+◌, ◌*◌, ◌-◌, ◌^◌, ◌≤◌, ◌<◌, ◌≡◌, List, length, take, get_or, Bool, true, false, ◌&&◌, nat_lt, nat_le, refl, sym, ap₂, arith, true≢false, ◌↔◌}
+use Rattle.std.proofs.Common.{ℕ, suc, [], ◌∷◌, ap, ◌∙◌, ◌++◌, Some, ◌+◌, ◌*◌, ◌-◌, ◌^◌, ◌≤◌, ◌<◌, ◌≡◌, List, length, take, get_or, Bool, true, ◌&&◌, nat_lt, nat_le, refl, sym, ap₂, arith, ◌↔◌}
 use Rattle.std.specs.Prelude.{IsTrue}
 use Rattle.std.specs.List.{AllPass}
 use Rattle.std.specs.Char.{digit_value, is_ascii_digit}
@@ -7,6 +7,7 @@ use Rattle.std.specs.Str.{all_ascii_digits}
 use Rattle.std.specs.Str.Parse.{AllDigits, digits_value, digits_value_after}
 use Rattle.std.proofs.Math.Nat.{pow-le-pow_right, mul-le-mul}
 use Rattle.std.proofs.lemmas.Nat.{pow-add}
+use Rattle.std.proofs.lemmas.Bool.{and_parts}
 use Rattle.std.proofs.lemmas.Bool.Decides.{nat_tests, Decides-by_and, same_from_decides}
 use Rattle.std.proofs.lemmas.Int.Digits.{digits_value-lt, digits_value_more}
 use Rattle.std.proofs.lemmas.Str.Parse.{digit_at, digits_value-take-le, numerals_by_value, tells_all_ascii_digits, IsNumeralModel}
@@ -16,11 +17,6 @@ use Rattle.frac_core.specs.Text.{is_short_numeral, decimal_of}
 pub ascii_digits : IsNumeralModel (λ ds. all_ascii_digits ds ≡ true) (digits_value 10)
 ascii_digits = numerals_by_value (λ ds. all_ascii_digits ds ≡ true) tells_all_ascii_digits
 
-both_pass : (a b : Bool) → (a && b) ≡ true → (a ≡ true) × (b ≡ true)
-both_pass true true e = (refl, refl)
-both_pass true false e = absurd (true≢false (sym e))
-both_pass false b e = absurd (true≢false (sym e))
-
 -- what the test of 1 to 19 digits says
 pub record IsShortNumeral (ds : List ℕ) : Type 0 where
   pub digits : AllDigits 10 ds
@@ -29,8 +25,8 @@ pub record IsShortNumeral (ds : List ℕ) : Type 0 where
 
 pub short_numeral : (ds : List ℕ) → is_short_numeral ds ≡ true → IsShortNumeral ds
 short_numeral ds h =
-    let p = both_pass (nat_lt 0 (length ds) && nat_le (length ds) 19) (all_ascii_digits ds) h in
-    let q = both_pass (nat_lt 0 (length ds)) (nat_le (length ds) 19) p.0 in
+    let p = and_parts (nat_lt 0 (length ds) && nat_le (length ds) 19) (all_ascii_digits ds) h in
+    let q = and_parts (nat_lt 0 (length ds)) (nat_le (length ds) 19) p.0 in
     let low : nat_lt 0 (length ds) ≡ true = q.0 in
     let high : nat_le (length ds) 19 ≡ true = q.1 in
     record { digits = ascii_digits.to ds p.1; some = grind (arith, nat_tests); short = grind (arith, nat_tests) }

@@ -1,12 +1,11 @@
 -- Lists of rows that are datasets, as the tests make them.
-use Rattle.std.specs.Prelude.{◌≡◌, ℕ, zero, suc, ◌+◌, ◌≤◌, List, [], ◌∷◌, ◌++◌, length, slice_get, take, Some, refl}
+use Rattle.std.specs.Prelude.{◌≡◌, ℕ, ◌+◌, ◌≤◌, List, [], ◌∷◌, ◌++◌, length, slice_get, take, Some, refl}
 use Rattle.std.proofs.Common.{sym, ap, ap₂, subst, ◌∙◌, arith}
-use Rattle.std.proofs.lemmas.Grind.{common_steps}
-use Rattle.std.proofs.lemmas.List.{length-map, map-append}
+use Rattle.std.proofs.lemmas.List.{length-map, map-append, take_all}
 use Rattle.ratios.specs.Ratio.{Ratio}
+use Rattle.record_text.proofs.Lists.{front_more}
 use Rattle.datasets.specs.Dataset.{Dataset, dataset_of, empty, rows}
 use Rattle.datasets.specs.Entries.{Entries, Row}
-use Rattle.datasets.proofs.Equality.{dataset_of-entries}
 use Rattle.weighted_set.specs.Changes.{entries_of}
 use Rattle.weighted_set.proofs.Parts.{IsListed-entries, listed-entries}
 use Rattle.weighted_set.specs.Parts.{IsListed, listed}
@@ -16,29 +15,19 @@ use Rattle.op_linear.specs.Filter.{FilterParts, filter_keys}
 use Rattle.op_linear.specs.FilterLaws.{factor_is_own}
 use Rattle.op_linear.specs.Takes.{HasOnly}
 
-take_next : {X : Type 0} (xs : List X) (i : ℕ) (x : X) → slice_get xs i ≡ Some x → take (suc i) xs ≡ take i xs ++ x ∷ []
-take_next [] i x at = cc
-take_next (y ∷ ys) zero x at = let e : y ≡ x = cc in ap (λ z. z ∷ []) e
-take_next (y ∷ ys) (suc i) x at = ap (λ zs. y ∷ zs) (take_next ys i x at)
-
-take_all : {X : Type 0} (xs : List X) (i : ℕ) → length xs ≤ i → take i xs ≡ xs
-take_all xs i h = grind (arith, common_steps)
-
 -- one entry more
 pub entries-more : (es : Entries) (list : List Weighted) (i : ℕ) (x : Row) (w : Ratio) → entries_of list ≡ take i es → slice_get es i ≡ Some (x, w) → (e : Weighted) → e.row ≡ x → e.weight ≡ w → entries_of (list ++ e ∷ []) ≡ take (i + 1) es
 entries-more es list i x w so_far at e row weight =
-    let next : suc i ≡ i + 1 = omega arith in
     map-append (λ (e : Weighted). (e.row, e.weight)) list (e ∷ [])
     ∙ ap (λ fs. fs ++ (e.row, e.weight) ∷ []) so_far
     ∙ ap₂ (λ x w. take i es ++ (x, w) ∷ []) row weight
-    ∙ sym (take_next es i (x, w) at)
-    ∙ ap (λ n. take n es) next
+    ∙ sym (front_more es i (x, w) at)
 
 -- all entries
 pub IsListed-all : (A : Dataset) (list : List Weighted) (i n : ℕ) → entries_of list ≡ take i A.entries → n ≡ length (rows A) → n ≤ i → IsListed list
 IsListed-all A list i n e count past =
     let all : length (rows A) ≡ length A.entries = length-map A.entries (λ e. e.0) in
-    IsListed-entries list A (e ∙ take_all A.entries i (omega arith))
+    IsListed-entries list A (e ∙ take_all i A.entries (omega arith))
 
 pub IsListed-none : IsListed []
 unfolding dataset_of empty

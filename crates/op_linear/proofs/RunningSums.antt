@@ -12,6 +12,7 @@ use Rattle.datasets.specs.Entries.{Row}
 use Rattle.operators.specs.InRange.{all_in_range, runs_in_range}
 use Rattle.weighted_set.specs.declared.weighted.Weighted.{Weighted}
 use Rattle.weighted_set.specs.Changes.{entries_of}
+use Rattle.weighted_set.proofs.Running.{length-entries_of}
 use Rattle.op_linear.specs.Select.{checked_sum, weights_of}
 
 -- where a sum is answered, it is the sum and no running sum is out of range
@@ -30,17 +31,14 @@ pub record IsSumAt (ws : List Ratio) (i : ℕ) (s : Ratio) : Type 0 where
 pub sum_start : (ws : List Ratio) (s : Ratio) → s ≡ zero_ratio → IsSumAt ws 0 s
 sum_start ws s e = subst (IsSumAt ws 0) (sym e) (record { sum = refl; runs = refl })
 
-length-entries : (list : List Weighted) → length (entries_of list) ≡ length list
-length-entries list = length-map list (λ (w : Weighted). (w.row, w.weight))
-
 length-listed : (list : List Weighted) → length (weights_of list) ≡ length list
-length-listed list = length-map (entries_of list) (λ e. e.1) ∙ length-entries list
+length-listed list = length-map (entries_of list) (λ e. e.1) ∙ length-entries_of list
 
 module _ (list : List Weighted) (i : ℕ) (s : Ratio) (running : IsSumAt (weights_of list) i s) where
   module _ (e : Weighted) (below : i < length list) (is : e ≡ get_or list i e) where
     weights_from : drop i (weights_of list) ≡ e.weight ∷ drop (i + 1) (weights_of list)
     weights_from =
-        let n = length-entries list in
+        let n = length-entries_of list in
         let m = length-listed list in
         let k : suc i ≡ i + 1 = omega arith in
         drop-cons (weights_of list) i e.weight (omega arith)

@@ -1,14 +1,10 @@
 -- Datasets of one row, and the parts of a dataset by their factors.
-use Rattle.std.specs.Prelude.{◌≡◌, ◌≢◌, ◌*◌, pos, ◌*ℤ◌, Bool, true, false, cond, if◌then◌else◌, [], ◌∷◌, map, refl}
-use Rattle.std.proofs.Common.{sym, ap, ap₂, subst, ◌∙◌, arith}
-use Rattle.std.proofs.Math.IntN.{*ℤ_comm, *ℤ-one}
-use Rattle.std.proofs.Math.Nat.{mul_comm}
-use lib.IntN
-use Rattle.ratios.specs.Range.{InRange, in_range}
-use Rattle.ratios.specs.Ratio.{Ratio, one_ratio, ratio, ratio_mul, zero_ratio}
-use Rattle.ratios.proofs.Parts.{ratio_as}
+use Rattle.std.specs.Prelude.{◌≡◌, ◌≢◌, Bool, true, false, cond, if◌then◌else◌, [], ◌∷◌, refl}
+use Rattle.std.proofs.Common.{sym, ap, subst, ◌∙◌}
+use Rattle.ratios.specs.Range.{InRange}
+use Rattle.ratios.specs.Ratio.{Ratio, one_ratio, ratio_mul, zero_ratio}
 use Rattle.datasets.specs.Dataset.{Dataset, at, dataset_of, empty, set_at}
-use Rattle.datasets.specs.Entries.{Entries, Row, is_zero, same_row, weight_in}
+use Rattle.datasets.specs.Entries.{Row, is_zero, same_row}
 use Rattle.datasets.proofs.Rows.{other_if_not_is_zero, same_row-equal, zero_if_is_zero}
 use Rattle.datasets.proofs.Weights.{at-dataset_of, weight_in-cons}
 use Rattle.ratios.proofs.Products.{ratio_mul_one, ratio_mul_zero}

@@ -2,15 +2,12 @@
 use Rattle.std.specs.Prelude.{◌≡◌, ◌≢◌, Bool, true, false, ◌&&◌, ◌||◌, List, [], ◌∷◌, refl}
 use Rattle.std.specs.List.{AllByRecursion, list_all}
 use Rattle.std.proofs.Common.{sym, ap₂, subst, true≢false}
+use Rattle.std.proofs.lemmas.Bool.{and_parts}
 use Rattle.ratios.specs.Ratio.{zero_ratio}
 use Rattle.datasets.specs.Dataset.{Dataset, at, rows}
 use Rattle.datasets.specs.Entries.{Row, has_row, same_row}
 use Rattle.datasets.proofs.Rows.{same_row-equal}
-use Rattle.operators.proofs.Tabulated.{at-absent}
-
-pub both_true : (a b : Bool) → (a && b) ≡ true → (a ≡ true) × (b ≡ true)
-both_true true b e = (refl, e)
-both_true false b e = absurd (true≢false (sym e))
+use Rattle.datasets.proofs.Weights.{at-absent}
 
 -- what holds of each member holds of a row that is one
 pub at-member : (P : Row → Type 0) (xs : List Row) (x : Row) → AllByRecursion P xs → has_row xs x ≡ true → P x
@@ -31,7 +28,7 @@ at-weighed P A x h weighed = here (has_row (rows A) x) (at-absent A x) (at-membe
 
 pub AllByRecursion-from_list_all : {X : Type 0} (test : X → Bool) (xs : List X) → list_all test xs ≡ true → AllByRecursion (λ x. test x ≡ true) xs
 AllByRecursion-from_list_all test [] h = tt
-AllByRecursion-from_list_all test (x ∷ xs) h = let p = both_true (test x) (list_all test xs) h in (p.0, AllByRecursion-from_list_all test xs p.1)
+AllByRecursion-from_list_all test (x ∷ xs) h = let p = and_parts (test x) (list_all test xs) h in (p.0, AllByRecursion-from_list_all test xs p.1)
 
 pub list_all-everywhere : {X : Type 0} (test : X → Bool) (xs : List X) → ((x : X) → test x ≡ true) → list_all test xs ≡ true
 list_all-everywhere test [] h = refl

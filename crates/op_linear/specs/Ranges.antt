@@ -6,7 +6,7 @@ use Rattle.ratios.specs.Range.{InRange, in_range}
 use Rattle.ratios.specs.Ratio.{zero_ratio}
 use Rattle.datasets.specs.Dataset.{Dataset, at, rows}
 use Rattle.datasets.specs.Entries.{has_row}
-use Rattle.operators.proofs.Tabulated.{at-absent}
+use Rattle.datasets.proofs.Weights.{at-absent}
 use Rattle.operators.specs.InRange.{weights_in_range}
 use Rattle.weighted_set.specs.Held.{AllInRange}
 use Rattle.weighted_set.proofs.Sets.{InRange-zero}

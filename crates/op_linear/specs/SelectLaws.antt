@@ -1,6 +1,7 @@
 -- The laws of Select.
 use Rattle.std.specs.Prelude.{◌≡◌, ◌≢◌, ◌↔◌, true, ◌&&◌, cond}
 use Rattle.std.proofs.Common.{sym, ap, ap₂, subst, ◌∙◌}
+use Rattle.std.proofs.lemmas.Bool.{and_parts}
 use Rattle.ratios.specs.Range.{InRange}
 use Rattle.ratios.specs.Ratio.{one_ratio, zero_ratio}
 use Rattle.ratios.specs.Sums.{ratio_sum}
@@ -17,7 +18,6 @@ use Rattle.weighted_set.specs.Parts.{FactoredInRange, part_of}
 use Rattle.weighted_set.specs.declared.part_op.Side.{Side}
 use Rattle.weighted_set.specs.declared.part_op.Side.TheVariants.{Left, Right}
 use Rattle.op_linear.specs.Factors.{FactoredInRange-ones, at-one_row, weighed_row}
-use Rattle.op_linear.specs.Members.{both_true}
 use Rattle.op_linear.specs.Ranges.{AllInRange-tested, weights_in_range-all}
 use Rattle.op_linear.specs.Select.{SelectParts, select_fits, select_keys, select_outputs, sums_in_range, weights}
 use Rattle.op_linear.specs.Sums.{runs-tested, select_in_range-everywhere, sum_in_range, weights-part}
@@ -48,7 +48,7 @@ select_fits_by_part op A B a b = (
 )
   where
     parts : select_fits op A ≡ true → (k : Row) → sums_in_range (part_of (select_keys op Left) k A) ≡ true
-    parts fits k = ap runs_in_range (weights-part (row_of op.row) k A) ∙ runs-tested (row_of op.row) A (both_true _ _ fits).0 k
+    parts fits k = ap runs_in_range (weights-part (row_of op.row) k A) ∙ runs-tested (row_of op.row) A (and_parts _ _ fits).0 k
 
     whole : ((k : Row) → sums_in_range (part_of (select_keys op Left) k A) ≡ true) → select_fits op A ≡ true
     whole h =
@@ -57,4 +57,4 @@ select_fits_by_part op A B a b = (
         (weights_in_range-all (selected (row_of op.row) A) (λ z. subst InRange (sym (at-selected op A z)) (sum_in_range (select_terms (row_of op.row) A z) (runs z))))
 
 pub select_output_in_range : (op : SelectParts) (A : Dataset) → select_fits op A ≡ true → AllInRange (selected (row_of op.row) A)
-select_output_in_range op A fits = AllInRange-tested (selected (row_of op.row) A) (both_true (select_in_range (row_of op.row) A) _ fits).1
+select_output_in_range op A fits = AllInRange-tested (selected (row_of op.row) A) (and_parts (select_in_range (row_of op.row) A) _ fits).1

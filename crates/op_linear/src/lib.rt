@@ -1,4 +1,7 @@
 //! Filter and Select: the operators that work row by row.
+//!
+//! Each works one key at a time: the key of an input row is the output row that it gives, if any, and
+//! the output at a key is worked out from the input rows of that key alone.
 #![tactic(auto)]
 
 mod filter;

@@ -4,6 +4,7 @@ use Rattle.std.specs.List.{AllByRecursion, range_with_len}
 use Rattle.std.specs.List.Sorted.{IsStrictlySortedBy}
 use Rattle.std.specs.declared.cmp.Ordering.TheVariants.{Less}
 use Rattle.std.proofs.Common.{arith, inl, inr, sym, ap, ap₂, subst, ◌∙◌, true≢false}
+use Rattle.std.proofs.lemmas.Bool.{false_from_ne_true}
 use Rattle.record_text.specs.Order.{row_cmp}
 use Rattle.datasets.specs.Entries.{AreRising, Row, has_row, same_row}
 use Rattle.datasets.proofs.Rows.{different_if_less, same_row-equal, same_row-itself}
@@ -21,21 +22,17 @@ HasOnce x (y ∷ ys) = ((y ≡ x) × HasNowhere x ys) ⊎ ((y ≢ x) × HasOnce 
 
 -- ---- what a test keeps that x alone passes
 
-fails : (b : Bool) → b ≢ true → b ≡ false
-fails true h = absurd (h refl)
-fails false h = refl
-
 filter-nowhere : {X : Type 0} (test : X → Bool) (x : X) (ys : List X) → AllByRecursion (λ y. test y ≡ true → y ≡ x) ys → HasNowhere x ys → filter test ys ≡ []
 filter-nowhere test x [] only none = refl
 filter-nowhere test x (y ∷ ys) only none =
-    ap (λ b. cond b (y ∷ filter test ys) (filter test ys)) (fails (test y) (λ e. none.0 (only.0 e))) ∙ filter-nowhere test x ys only.1 none.1
+    ap (λ b. cond b (y ∷ filter test ys) (filter test ys)) (false_from_ne_true (test y) (λ e. none.0 (only.0 e))) ∙ filter-nowhere test x ys only.1 none.1
 
 pub filter-once : {X : Type 0} (test : X → Bool) (x : X) (ys : List X) → test x ≡ true → AllByRecursion (λ y. test y ≡ true → y ≡ x) ys → HasOnce x ys → filter test ys ≡ x ∷ []
 filter-once test x [] passes only once = absurd once
 filter-once test x (y ∷ ys) passes only (inl h) =
     ap (λ b. cond b (y ∷ filter test ys) (filter test ys)) (ap test h.0 ∙ passes) ∙ ap₂ (λ z zs. z ∷ zs) h.0 (filter-nowhere test x ys only.1 h.1)
 filter-once test x (y ∷ ys) passes only (inr h) =
-    ap (λ b. cond b (y ∷ filter test ys) (filter test ys)) (fails (test y) (λ e. h.0 (only.0 e))) ∙ filter-once test x ys passes only.1 h.1
+    ap (λ b. cond b (y ∷ filter test ys) (filter test ys)) (false_from_ne_true (test y) (λ e. h.0 (only.0 e))) ∙ filter-once test x ys passes only.1 h.1
 
 -- ---- lists of pairs
 

@@ -16,7 +16,8 @@ use Rattle.operators.proofs.Gathered.{at-gathered}
 use Rattle.operators.proofs.Levels.{AllByRecursion-levels}
 use Rattle.operators.proofs.Members.{AllByRecursion-everywhere, AllByRecursion-filter, AllByRecursion-map, AllByRecursion-pairs, AllByRecursion-passing, AllByRecursion-weaker}
 use Rattle.operators.proofs.Order.{RatioLe-is_below, ratio_max_itself, ratio_min_itself}
-use Rattle.operators.proofs.Signs.{IsNonnegative, IsNonnegative-ratio, IsNonnegative-ratio_add, IsNonnegative-ratio_div, IsNonnegative-ratio_half, IsNonnegative-ratio_max, IsNonnegative-ratio_min, IsNonnegative-ratio_mul, IsNonnegative-ratio_sub, IsNonnegative-ratio_sum}
+use Rattle.datasets.proofs.Sizes.{IsNonnegative}
+use Rattle.operators.proofs.Signs.{IsNonnegative-ratio, IsNonnegative-ratio_add, IsNonnegative-ratio_div, IsNonnegative-ratio_half, IsNonnegative-ratio_max, IsNonnegative-ratio_min, IsNonnegative-ratio_mul, IsNonnegative-ratio_sub, IsNonnegative-ratio_sum}
 use Rattle.operators.proofs.Tabulated.{at-filtered, at-pointwise}
 
 -- ---- members that weigh 0 or more

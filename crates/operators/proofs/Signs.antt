@@ -9,12 +9,9 @@ use Rattle.ratios.proofs.Additive.{over_zero, ratio_add_le, ratio_add_zero, rati
 use Rattle.ratios.proofs.Order.{three}
 use Rattle.ratios.proofs.Over.{IsOver, le_over, over_itself, over_le, over_mul, over_ratio, over_sub}
 use Rattle.ratios.proofs.SumLaws.{ratio_sum-cons}
+use Rattle.datasets.proofs.Sizes.{IsNonnegative}
 use Rattle.operators.specs.Weights.{is_at_most, ratio_max, ratio_min}
 use Rattle.operators.proofs.Order.{RatioLe-is_at_most, RatioLe-turned}
-
--- q is not below 0
-abbrev pub IsNonnegative : Ratio → Type 0
-IsNonnegative q = RatioLe zero_ratio q
 
 num_of_nonnegative : (q : Ratio) → IsNonnegative q → pos 0 ≤ℤ q.num
 num_of_nonnegative q h = le_over (pos 0) q.num q.den zero_ratio q (over_zero q.den q.positive) (over_itself q) h

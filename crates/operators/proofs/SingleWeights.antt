@@ -1,7 +1,8 @@
 -- The weight of an output row that one member of a list gives: a piece of a shave, a pair of a join.
-use Rattle.std.specs.Prelude.{◌≡◌, ◌&&◌, ◌||◌, ℕ, pos, Bool, true, false, drop, filter, length, List, [], ◌∷◌, ◌++◌, map, refl, take}
+use Rattle.std.specs.Prelude.{◌≡◌, ◌&&◌, ◌||◌, ℕ, pos, true, drop, filter, length, List, [], ◌∷◌, ◌++◌, map, take}
 use Rattle.std.specs.List.{AllByRecursion, range_with_len}
 use Rattle.std.proofs.Common.{arith, sym, ap, ap₂, ◌∙◌}
+use Rattle.std.proofs.Math.Bool.{or-true}
 use Rattle.std.proofs.Math.Seq.{drop-append_seam, take-append_seam}
 use Rattle.std.proofs.lemmas.List.{length-append}
 use Rattle.std.proofs.lemmas.List.Kept.{IsStrictlySortedBy-filter}
@@ -55,14 +56,10 @@ at-shaved-piece fs A x i in_rows in_pieces =
 -- ---- pairs of a join
 
 -- P of each row that a list has
-AllByRecursion-has_row : (P : Row → Type 0) (xs : List Row) → ((x : Row) → has_row xs x ≡ true → P x) → AllByRecursion P xs
+pub AllByRecursion-has_row : (P : Row → Type 0) (xs : List Row) → ((x : Row) → has_row xs x ≡ true → P x) → AllByRecursion P xs
 AllByRecursion-has_row P [] h = tt
 AllByRecursion-has_row P (x ∷ xs) h =
-    (h x (ap (λ b. b || has_row xs x) (same_row-itself x)), AllByRecursion-has_row P xs (λ z k. h z (ap (λ b. same_row z x || b) k ∙ or_true (same_row z x))))
-  where
-    or_true : (b : Bool) → (b || true) ≡ true
-    or_true true = refl
-    or_true false = refl
+    (h x (ap (λ b. b || has_row xs x) (same_row-itself x)), AllByRecursion-has_row P xs (λ z k. h z (ap (λ b. same_row z x || b) k ∙ or-true (same_row z x))))
 
 same_pair : (n : ℕ) (p q : Row × Row) → length p.0 ≡ n → length q.0 ≡ n → both_rows p ≡ both_rows q → p ≡ q
 same_pair n p q l m e = ap₂ (λ x y. (x, y)) (same_fronts p.0 q.0 p.1 q.1 (l ∙ sym m) e) (same_backs p.0 q.0 p.1 q.1 (l ∙ sym m) e)

@@ -2,25 +2,23 @@
 use Rattle.std.specs.Prelude.{◌≡◌, Bool, true, false, cond, ◌&&◌, ◌||◌, filter, List, [], ◌∷◌, map, refl}
 use Rattle.std.specs.Ordering.{match_ordering}
 use Rattle.std.specs.declared.cmp.Ordering.TheVariants.{Less, Equal, Greater}
-use Rattle.std.proofs.Common.{sym, ap, ap₂, subst, ◌∙◌, true≢false}
+use Rattle.std.proofs.Common.{sym, ap, ap₂, subst, ◌∙◌}
+use Rattle.std.proofs.Math.Bool.{and-false, or_assoc}
+use Rattle.std.proofs.lemmas.Bool.{or_parts}
 use Rattle.ratios.specs.Ratio.{Ratio, zero_ratio}
 use Rattle.record_text.specs.Order.{row_cmp}
 use Rattle.record_text.specs.OrderLaws.{row_tie}
 use Rattle.datasets.specs.Dataset.{Dataset, at, rows, rows_of_either, with_row, with_rows}
-use Rattle.datasets.specs.Entries.{Entries, Row, has_row, rows_of, same_row, weight_in}
+use Rattle.datasets.specs.Entries.{Row, has_row, same_row, weight_in}
 use Rattle.datasets.proofs.Rows.{same_row-equal}
-use Rattle.datasets.proofs.Weights.{at-dataset_of, weight_in-cons}
+use Rattle.datasets.proofs.Weights.{at-absent, at-dataset_of, weight_in-cons}
 use Rattle.operators.specs.Weights.{tabulated}
 use Rattle.operators.specs.Operators.{filter_weight, filtered, pointwise, pointwise_weight}
 
 -- ---- which rows a list has
 
 pub has_row-filter : (test : Row → Bool) (xs : List Row) (z : Row) → has_row (filter test xs) z ≡ (test z && has_row xs z)
-has_row-filter test [] z = sym (nowhere (test z))
-  where
-    nowhere : (b : Bool) → (b && false) ≡ false
-    nowhere true = refl
-    nowhere false = refl
+has_row-filter test [] z = sym (and-false (test z))
 has_row-filter test (x ∷ xs) z =
     elim (test x) as (λ b. test x ≡ b → has_row (cond b (x ∷ filter test xs) (filter test xs)) z ≡ (test z && (same_row z x || has_row xs z))) [
       | true ↦ λ p. ap (λ b. same_row z x || b) (has_row-filter test xs z) ∙ passes (same_row z x) (test z) (λ e. ap test (same_row-equal z x e) ∙ p)
@@ -44,10 +42,6 @@ or_swapped true true c = refl
 or_swapped true false c = refl
 or_swapped false b c = refl
 
-or_grouped : (a b c : Bool) → (a || (b || c)) ≡ ((a || b) || c)
-or_grouped true b c = refl
-or_grouped false b c = refl
-
 pub has_row-with_row : (x : Row) (ys : List Row) (z : Row) → has_row (with_row x ys) z ≡ (same_row z x || has_row ys z)
 has_row-with_row x [] z = refl
 has_row-with_row x (y ∷ ys) z =
@@ -60,23 +54,9 @@ has_row-with_row x (y ∷ ys) z =
 pub has_row-with_rows : (xs ys : List Row) (z : Row) → has_row (with_rows xs ys) z ≡ (has_row xs z || has_row ys z)
 has_row-with_rows [] ys z = refl
 has_row-with_rows (x ∷ xs) ys z =
-    has_row-with_row x (with_rows xs ys) z ∙ ap (λ b. same_row z x || b) (has_row-with_rows xs ys z) ∙ or_grouped (same_row z x) (has_row xs z) (has_row ys z)
+    has_row-with_row x (with_rows xs ys) z ∙ ap (λ b. same_row z x || b) (has_row-with_rows xs ys z) ∙ sym (or_assoc (same_row z x) (has_row xs z) (has_row ys z))
 
 -- ---- weights
-
-neither : (a b : Bool) → (a || b) ≡ false → (a ≡ false) × (b ≡ false)
-neither true b e = absurd (true≢false e)
-neither false b e = (refl, e)
-
-weight_in-absent : (es : Entries) (z : Row) → has_row (rows_of es) z ≡ false → weight_in es z ≡ zero_ratio
-weight_in-absent [] z h = refl
-weight_in-absent (e ∷ es) z h =
-    let p = neither (same_row z e.0) (has_row (rows_of es) z) h in
-    weight_in-cons z e es ∙ ap (λ b. cond b e.1 (weight_in es z)) p.0 ∙ weight_in-absent es z p.1
-
--- what is no row weighs 0
-pub at-absent : (A : Dataset) (z : Row) → has_row (rows A) z ≡ false → at A z ≡ zero_ratio
-at-absent A z h = weight_in-absent A.entries z h
 
 weight_in-tabulated : (f : Row → Ratio) (xs : List Row) (z : Row) → weight_in (map (λ x. (x, f x)) xs) z ≡ cond (has_row xs z) (f z) zero_ratio
 weight_in-tabulated f [] z = refl
@@ -115,4 +95,4 @@ at-filtered test A z =
 pub at-pointwise : (op : Ratio → Ratio → Ratio) → op zero_ratio zero_ratio ≡ zero_ratio → (A B : Dataset) (z : Row) → at (pointwise op A B) z ≡ pointwise_weight op A B z
 at-pointwise op e A B =
     at-tabulated-everywhere (pointwise_weight op A B) (rows_of_either A B)
-    (λ z h. let p = neither (has_row (rows A) z) (has_row (rows B) z) (sym (has_row-with_rows (rows A) (rows B) z) ∙ h) in ap₂ op (at-absent A z p.0) (at-absent B z p.1) ∙ e)
+    (λ z h. let p = or_parts (has_row (rows A) z) (has_row (rows B) z) (sym (has_row-with_rows (rows A) (rows B) z) ∙ h) in ap₂ op (at-absent A z p.0) (at-absent B z p.1) ∙ e)

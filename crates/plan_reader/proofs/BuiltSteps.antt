@@ -16,7 +16,8 @@ use Rattle.plan_reader.specs.Fields.{place, or_shape, no_other, name_in, of_in, 
 use Rattle.plan_reader.specs.Exprs.{expr_in, exprs_in}
 use Rattle.plan_reader.specs.Steps.{kind_of, step_fields, source_in, where_in, select_in, fields_in, step_in, is_built_step}
 use Rattle.plan_reader.specs.Plans.{is_built}
-use Rattle.plan_reader.proofs.Walks.{both_steps, length-each}
+use Rattle.json_fields.proofs.Walks.{both_steps}
+use Rattle.plan_reader.proofs.Walks.{length-each}
 use Rattle.plan_reader.proofs.WithinLimits.{is_expr-expr_in, are_exprs-exprs_in}
 
 -- ---- fields

@@ -7,7 +7,7 @@ use Rattle.serde_json.specs.Data.{Data}
 use Rattle.serde_json.specs.View.{view}
 use Rattle.serde_json.specs.declared.value.Value.{Value}
 use Rattle.json_fields.specs.Walk.{each}
-use Rattle.plan_reader.proofs.Walks.{both_steps}
+use Rattle.json_fields.proofs.Walks.{both_steps}
 
 -- one member, and then those that were walked
 one_before : {D A E : Type 0} (f : ℕ → D → Result A E) (at : ℕ) (d : D) (ds : List D) (x : A) (xs : List A) →

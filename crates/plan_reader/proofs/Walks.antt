@@ -1,11 +1,7 @@
 -- Walks that come to their end.
-use Rattle.std.proofs.Common.{◌≡◌, ℕ, ◌+◌, List, [], ◌∷◌, length, Result, Ok, Err, refl}
-use Rattle.json_fields.specs.Walk.{◌>>=◌, each}
-
--- a walk of two steps that comes to its end
-pub both_steps : {A B E : Type 0} (r : Result A E) (f : A → Result B E) (y : B) → (r >>= f) ≡ Ok y → (x : A) × (r ≡ Ok x) × (f x ≡ Ok y)
-both_steps (Ok x) f y e = (x, refl, e)
-both_steps (Err fault) f y e = cc
+use Rattle.std.proofs.Common.{◌≡◌, ℕ, ◌+◌, List, [], ◌∷◌, length, Result, Ok, refl}
+use Rattle.json_fields.proofs.Walks.{both_steps}
+use Rattle.json_fields.specs.Walk.{each}
 
 -- each member gives one value
 pub length-each : {D A E : Type 0} (f : ℕ → D → Result A E) (at : ℕ) (ds : List D) (xs : List A) → each f at ds ≡ Ok xs → length xs ≡ length ds

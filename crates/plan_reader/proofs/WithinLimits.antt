@@ -18,7 +18,7 @@ use Rattle.plan_reader.specs.Fields.{list_in}
 use Rattle.plan_reader.specs.Forms.{Node, col_node, const_node, one_node, two_node, three_node, form_of}
 use Rattle.plan_reader.proofs.SoundNodes.{IsSound, sound-form_of}
 use Rattle.plan_model.proofs.Terms.{term_of-Col, term_of-Const, term_of-One, term_of-Two, term_of-Three}
-use Rattle.plan_reader.proofs.Walks.{both_steps}
+use Rattle.json_fields.proofs.Walks.{both_steps}
 
 -- at most so many levels deep, the nodes and those that are left together as many as there were, and each
 -- primitive at a place of its table

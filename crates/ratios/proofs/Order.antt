@@ -97,7 +97,8 @@ pub parts_test_is : (q r : Ratio) (b : Bool) → (b ≡ true → (q.num ≡ r.nu
 parts_test_is q r true f g = true_at_same_parts q r (f refl).0 (f refl).1
 parts_test_is q r false f g = false_at_other_parts q r (g refl)
 
-tie_from_test : (o : Ordering) → is_eq o ≡ true → o ≡ Equal
+-- two rank the same where the test says so
+pub tie_from_test : (o : Ordering) → is_eq o ≡ true → o ≡ Equal
 tie_from_test Less e = absurd (true≢false (sym e))
 tie_from_test Equal e = refl
 tie_from_test Greater e = absurd (true≢false (sym e))

@@ -1,6 +1,7 @@
 -- `in_range` in terms of the parts, and what `checked` answers.
-use Rattle.std.specs.Prelude.{◌^◌, ◌<◌, ◌≡◌, Bool, true, false, ◌&&◌, nat_lt, cond, unsigned_abs, Some, None, refl}
+use Rattle.std.specs.Prelude.{◌^◌, ◌<◌, ◌≡◌, Bool, true, false, nat_lt, cond, unsigned_abs, Some, None, refl}
 use Rattle.std.proofs.Common.{arith, true≢false, sym, ap}
+use Rattle.std.proofs.lemmas.Bool.{and_parts, false_from_ne_true}
 use Rattle.std.proofs.lemmas.Bool.Decides.{nat_tests}
 use Rattle.ratios.specs.Ratio.{Ratio}
 use Rattle.ratios.specs.Range.{in_range, InRange, checked}
@@ -9,15 +10,10 @@ pub InRange-from_bounds : (q : Ratio) → unsigned_abs q.num < 2 ^ 62 → q.den 
 unfolding in_range
 InRange-from_bounds q h k = grind (arith, nat_tests)
 
-both_pass : (a b : Bool) → (a && b) ≡ true → (a ≡ true) × (b ≡ true)
-both_pass true true e = (refl, refl)
-both_pass true false e = (refl, e)
-both_pass false b e = absurd (true≢false (sym e))
-
 pub bounds_of_InRange : (q : Ratio) → InRange q → (unsigned_abs q.num < 2 ^ 62) × (q.den < 2 ^ 62)
 unfolding in_range
 bounds_of_InRange q h =
-    let p = both_pass (nat_lt (unsigned_abs q.num) (2 ^ 62)) (nat_lt q.den (2 ^ 62)) h in
+    let p = and_parts (nat_lt (unsigned_abs q.num) (2 ^ 62)) (nat_lt q.den (2 ^ 62)) h in
     let e : nat_lt (unsigned_abs q.num) (2 ^ 62) ≡ true = p.0 in
     let f : nat_lt q.den (2 ^ 62) ≡ true = p.1 in
     (grind (arith, nat_tests), grind (arith, nat_tests))
@@ -26,12 +22,8 @@ bounds_of_InRange q h =
 pub checked-in : (q : Ratio) → InRange q → checked q ≡ Some q
 checked-in q h = ap (λ b. cond b (Some q) None) h
 
-not_true : (b : Bool) → ¬ (b ≡ true) → b ≡ false
-not_true true n = absurd (n refl)
-not_true false n = refl
-
 pub in_range-out : (q : Ratio) → ¬ (InRange q) → in_range q ≡ false
-in_range-out q n = not_true (in_range q) n
+in_range-out q n = false_from_ne_true (in_range q) n
 
 pub checked-out : (q : Ratio) → ¬ (InRange q) → checked q ≡ None
 checked-out q n = ap (λ b. cond b (Some q) None) (in_range-out q n)

@@ -1,9 +1,11 @@
 -- What a loop that adds weights one by one knows of `ratio_sum` and `first_out_of_range`.
 use Rattle.std.specs.Prelude.{ℕ, zero, suc, ◌+◌, ◌<◌, ◌≤◌, ◌≡◌, Bool, true, false, not, cond, List, [], ◌∷◌, length, take, drop, fold, All, Option, Some, None, refl}
 use Rattle.std.specs.List.{position_from}
-use Rattle.std.proofs.Common.{arith, sym, ap, ◌∙◌, true≢false, get_or}
+use Rattle.std.proofs.Common.{arith, sym, ap, ◌∙◌, get_or}
 use Rattle.std.proofs.lemmas.List.Sums.{fold_more}
-use Rattle.std.proofs.Math.Seq.{drop-cons}
+use Rattle.std.proofs.lemmas.Bool.{not-false}
+use Rattle.std.proofs.lemmas.List.{drop_more}
+use Rattle.std.proofs.lemmas.List.Elements.{All-cons}
 use Rattle.std.proofs.Math.ListN.{drop_of_length-le}
 use Rattle.ratios.specs.Ratio.{Ratio, ratio_add, zero_ratio}
 use Rattle.ratios.specs.Range.{in_range, InRange}
@@ -21,10 +23,6 @@ pub record IsRunningAt (ws : List Ratio) (i : ℕ) (s : Ratio) : Type 0 where
 pub running_start : (ws : List Ratio) → IsRunningAt ws 0 zero_ratio
 running_start ws = record { rest_sum = refl; rest_place = refl }
 
--- the list from place i on, at a member w
-next_is : (ws : List Ratio) (i : ℕ) (d : Ratio) → i < length ws → drop i ws ≡ get_or ws i d ∷ drop (i + 1) ws
-next_is ws i d h = let e : suc i ≡ i + 1 = omega arith in drop-cons ws i d h ∙ ap (λ k. get_or ws i d ∷ drop k ws) e
-
 place_in : (i : ℕ) (q : Ratio) (qs : List Ratio) → InRange q → position_from is_out i (q ∷ qs) ≡ position_from is_out (i + 1) qs
 place_in i q qs h = ap (λ b. cond (not b) (Some i) (position_from is_out (i + 1) qs)) h
 
@@ -37,8 +35,8 @@ pub running_step : (ws : List Ratio) (i : ℕ) (s d : Ratio) → i < length ws �
 running_step ws i s d lt h k =
     let w = get_or ws i d in
     record {
-      rest_sum = h.rest_sum ∙ ap (fold ratio_add s) (next_is ws i d lt);
-      rest_place = h.rest_place ∙ ap (λ xs. position_from is_out i (running_sums_after s xs)) (next_is ws i d lt) ∙ place_in i (ratio_add s w) (running_sums_after (ratio_add s w) (drop (i + 1) ws)) k;
+      rest_sum = h.rest_sum ∙ ap (fold ratio_add s) (drop_more ws i d lt);
+      rest_place = h.rest_place ∙ ap (λ xs. position_from is_out i (running_sums_after s xs)) (drop_more ws i d lt) ∙ place_in i (ratio_add s w) (running_sums_after (ratio_add s w) (drop (i + 1) ws)) k;
     }
 
 -- the next sum is out of range
@@ -46,7 +44,7 @@ pub running_out : (ws : List Ratio) (i : ℕ) (s d : Ratio) → i < length ws �
     first_out_of_range ws ≡ Some i
 running_out ws i s d lt h k =
     let w = get_or ws i d in
-    h.rest_place ∙ ap (λ xs. position_from is_out i (running_sums_after s xs)) (next_is ws i d lt) ∙ place_out i (ratio_add s w) (running_sums_after (ratio_add s w) (drop (i + 1) ws)) k
+    h.rest_place ∙ ap (λ xs. position_from is_out i (running_sums_after s xs)) (drop_more ws i d lt) ∙ place_out i (ratio_add s w) (running_sums_after (ratio_add s w) (drop (i + 1) ws)) k
 
 -- the end: the sum is the whole sum, and no sum on the way was out of range
 pub running_sum_is : (ws : List Ratio) (i : ℕ) (s : Ratio) → length ws ≤ i → IsRunningAt ws i s → s ≡ ratio_sum ws
@@ -60,23 +58,17 @@ pub ratio_sum-take : (ws : List Ratio) (i : ℕ) (d : Ratio) → i < length ws �
 ratio_sum-take ws i d h = fold_more ratio_add zero_ratio ws i d h
 
 -- ---- no place is out of range just where all sums on the way are in range
-in_if_not_out : (b : Bool) → not b ≡ false → b ≡ true
-in_if_not_out true e = refl
-in_if_not_out false e = absurd (true≢false e)
 
-first_passes : (b : Bool) (i : ℕ) (o : Option ℕ) → cond b (Some i) o ≡ None → (b ≡ false) × (o ≡ None)
+-- where no place is found, the first place is not one
+pub first_passes : (b : Bool) (i : ℕ) (o : Option ℕ) → cond b (Some i) o ≡ None → (b ≡ false) × (o ≡ None)
 first_passes true i o e = cc
 first_passes false i o e = (refl, e)
-
-all_cons : (q : Ratio) (qs : List Ratio) → InRange q → All InRange qs → All InRange (q ∷ qs)
-all_cons q qs h k zero d lt = h
-all_cons q qs h k (suc n) d lt = k n d (omega arith)
 
 all_if_none : (i : ℕ) (qs : List Ratio) → position_from is_out i qs ≡ None → All InRange qs
 all_if_none i [] e = λ k d lt. absurd (omega arith)
 all_if_none i (q ∷ qs) e =
     let p = first_passes (not (in_range q)) i (position_from is_out (i + 1) qs) e in
-    all_cons q qs (in_if_not_out (in_range q) p.0) (all_if_none (i + 1) qs p.1)
+    All-cons InRange q qs (not-false (in_range q) p.0) (all_if_none (i + 1) qs p.1)
 
 none_if_all : (i : ℕ) (qs : List Ratio) → All InRange qs → position_from is_out i qs ≡ None
 none_if_all i [] h = refl

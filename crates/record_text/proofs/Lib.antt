@@ -1,5 +1,6 @@
 pub mod Equality
 pub mod Numerals
 pub mod Rows
+pub mod Lists
 mod Bytes
 mod Filling

@@ -6,7 +6,7 @@ use Rattle.std.specs.List.{list_all}
 use Rattle.std.specs.Result.{result_ok}
 use Rattle.std.specs.Str.{IsAscii, IsUtf8, is_utf8}
 use Rattle.std.specs.Str.Parse.{IsNumeral, ParsesSigned, digits_value, signed_digits_value, without_leading_sign}
-use Rattle.std.proofs.lemmas.Bool.{and_from}
+use Rattle.std.proofs.lemmas.Bool.{and_from, and_parts}
 use Rattle.std.proofs.lemmas.Bool.Decides.{nat_tests}
 use Rattle.std.proofs.lemmas.Str.{IsUtf8-from_ascii, IsUtf8-from_is_utf8, is_utf8-from_IsUtf8}
 use Rattle.std.proofs.lemmas.Str.Ascii.{IsAscii-nil, IsAscii-cons}
@@ -14,7 +14,7 @@ use Rattle.std.proofs.lemmas.Str.Parse.{IsNumeralModel, numerals_by_value}
 use Rattle.record_text.specs.FieldAtoms.{is_short_numeral, is_i64, is_int_field, int_of_field, text_of_field}
 use Rattle.record_text.specs.declared.atom.Atom.TheVariants.{Text}
 use Rattle.record_text.specs.declared.field.AtomFault.TheVariants as fault
-use Rattle.record_text.proofs.Bytes.{first_passes, second_passes, IsAscii-passed}
+use Rattle.record_text.proofs.Bytes.{IsAscii-passed}
 
 -- ---- numbers
 
@@ -24,7 +24,7 @@ ascii_digits = numerals_by_value (λ digits. list_all is_ascii_digit digits ≡ 
 
 IsNumeral-short : (digits : List ℕ) → is_short_numeral digits ≡ true → IsNumeral 10 digits
 IsNumeral-short digits short =
-    (ltb-true 0 (length digits) (first_passes _ (nat_le (length digits) 19) (first_passes _ (list_all is_ascii_digit digits) short)), ascii_digits.to digits (second_passes _ _ short))
+    (ltb-true 0 (length digits) (and_parts _ (nat_le (length digits) 19) (and_parts _ (list_all is_ascii_digit digits) short).0).0, ascii_digits.to digits (and_parts _ _ short).1)
 
 is_ascii_digit-small : (byte : ℕ) → is_ascii_digit byte ≡ true → byte < 128
 is_ascii_digit-small byte passed = grind (arith, nat_tests)
@@ -43,7 +43,7 @@ IsAscii-signed (byte ∷ bytes) ascii =
 
 pub IsUtf8-numeral : (field : List ℕ) → is_short_numeral (without_leading_sign field) ≡ true → IsUtf8 field
 IsUtf8-numeral field short =
-    IsUtf8-from_ascii field (IsAscii-signed field (IsAscii-passed is_ascii_digit is_ascii_digit-small (without_leading_sign field) (second_passes _ _ short)))
+    IsUtf8-from_ascii field (IsAscii-signed field (IsAscii-passed is_ascii_digit is_ascii_digit-small (without_leading_sign field) (and_parts _ _ short).1))
 
 is_i64-fits : (z : ℤ) → FitsSigned w64 z → is_i64 z ≡ true
 is_i64-fits (pos n) held = lt-ltb _ _ held.sfits
@@ -58,7 +58,7 @@ short-IsNumeral digits numeral few =
     and_from _ _ (and_from _ _ (lt-ltb 0 (length digits) numeral.0) (le-leb _ _ few)) (ascii_digits.from digits numeral.1)
 
 pub short-length : (digits : List ℕ) → is_short_numeral digits ≡ true → length digits ≤ 19
-short-length digits short = leb-true _ _ (second_passes (nat_lt 0 (length digits)) _ (first_passes _ (list_all is_ascii_digit digits) short))
+short-length digits short = leb-true _ _ (and_parts (nat_lt 0 (length digits)) _ (and_parts _ (list_all is_ascii_digit digits) short).0).1
 
 -- what `parse` gives for a field of at most 19 digits
 pub parsed : {E : Type 0} (field : List ℕ) (read : Result ℤ E) → length (without_leading_sign field) ≤ 19
@@ -68,7 +68,7 @@ parsed field (Ok z) few is =
     rw (short, is_i64-fits (signed_digits_value 10 field) is.0.1) (ap Some is.1)
 parsed field (Err e) few is =
     elim (is_int_field field) as (λ b. is_int_field field ≡ b → None ≡ int_of_field field) [
-      | true ↦ λ held. absurd (is (IsNumeral-short _ (first_passes _ (is_i64 (signed_digits_value 10 field)) held), fits-is_i64 _ (second_passes _ _ held)))
+      | true ↦ λ held. absurd (is (IsNumeral-short _ (and_parts _ (is_i64 (signed_digits_value 10 field)) held).0, fits-is_i64 _ (and_parts _ _ held).1))
       | false ↦ λ none. rw none refl
     ] refl
 

@@ -1,4 +1,7 @@
 //! A counter of steps that takes no bytes at run time, for contracts that bound work.
+//!
+//! A counted call ticks the counter that it is lent once for each of its steps, and its contract says
+//! how far the count rises.
 #![tactic(auto)]
 
 ghost use Rattle.std.specs.Prelude.{◌≡◌, ◌+◌, ◌<◌, ℕ};

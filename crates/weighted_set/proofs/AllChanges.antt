@@ -1,18 +1,13 @@
 -- All rows of a dataset, as the changes that make them of no rows.
-use Rattle.std.specs.Prelude.{◌≡◌, ◌≢◌, true, false, cond, ◌||◌, IsTrue, List, [], ◌∷◌, map, Option, Some, None, refl}
+use Rattle.std.specs.Prelude.{◌≡◌, ◌≢◌, true, false, cond, ◌||◌, List, [], ◌∷◌, map, refl}
 use Rattle.std.specs.List.{AllByRecursion}
-use Rattle.std.specs.List.Sorted.{IsStrictlySortedBy}
-use Rattle.std.specs.Map.{lookup}
-use Rattle.std.specs.Option.{unwrap_or}
-use Rattle.std.specs.declared.cmp.Ordering.TheVariants.{Less}
 use Rattle.std.proofs.Common.{sym, ap, subst, ◌∙◌}
 use Rattle.std.proofs.lemmas.List.Elements.{All-from_recursion}
 use Rattle.ratios.specs.Ratio.{Ratio, zero_ratio}
-use Rattle.record_text.specs.Order.{row_cmp}
 use Rattle.datasets.specs.Dataset.{Dataset, at, empty}
 use Rattle.datasets.specs.Entries.{Row, Entries, AreRising, NoneZero, has_row, rows_of, same_row, weight_in}
-use Rattle.datasets.proofs.Rows.{different_if_less, same_row-itself, same_row-turned}
 use Rattle.datasets.proofs.Weights.{at-empty, weight_in-cons}
+use Rattle.weighted_set.proofs.Parts.{entries_have_weights}
 use Rattle.weighted_set.specs.Changes.{IsChangeList, changed_rows}
 use Rattle.weighted_set.specs.declared.weighted.Change.{Change}
 
@@ -32,16 +27,6 @@ module _ (A : Dataset) where
   abbrev IsNew : Change → Type 0
   IsNew c = (c.old ≡ at empty c.row) × (c.new ≡ at A c.row) × (c.old ≢ c.new)
 
-own_weights-below : (e : Row × Ratio) (es fs : Entries) → AllByRecursion (λ y. row_cmp e.0 y ≡ Less) (rows_of fs) → AllByRecursion (λ f. f.1 ≡ weight_in es f.0) fs → AllByRecursion (λ f. f.1 ≡ weight_in (e ∷ es) f.0) fs
-own_weights-below e es [] below h = tt
-own_weights-below e es (f ∷ fs) below h =
-    (h.0 ∙ sym (weight_in-cons f.0 e es ∙ ap (λ b. cond b e.1 (weight_in es f.0)) (same_row-turned f.0 e.0 ∙ different_if_less e.0 f.0 below.0)), own_weights-below e es fs below.1 h.1)
-
-own_weights : (es : Entries) → AreRising (rows_of es) → AllByRecursion (λ f. f.1 ≡ weight_in es f.0) es
-unfolding IsStrictlySortedBy
-own_weights [] h = tt
-own_weights (e ∷ es) h = (sym (weight_in-cons e.0 e es ∙ ap (λ b. cond b e.1 (weight_in es e.0)) (same_row-itself e.0)), own_weights-below e es es h.0 (own_weights es h.1))
-
 are_new : (A : Dataset) (es : Entries) → NoneZero es → AllByRecursion (λ f. f.1 ≡ at A f.0) es → AllByRecursion (IsNew A) (new_changes es)
 are_new A [] n h = tt
 are_new A (e ∷ es) n h = ((sym (at-empty e.0), h.0, λ z. n.0 (sym z)), are_new A es n.1 h.1)
@@ -57,6 +42,6 @@ weighed_listed (e ∷ es) x n =
 pub IsChangeList-new_changes : (A : Dataset) → IsChangeList (new_changes A.entries) empty A
 IsChangeList-new_changes A = record {
   rising = subst AreRising (sym (rows-new_changes A.entries)) A.rising;
-  each = All-from_recursion (IsNew A) (new_changes A.entries) (are_new A A.entries A.none_zero (own_weights A.entries A.rising));
+  each = All-from_recursion (IsNew A) (new_changes A.entries) (are_new A A.entries A.none_zero (entries_have_weights A.entries A.rising));
   complete = λ x n. weighed_listed A.entries x (λ z. n (at-empty x ∙ z));
 }

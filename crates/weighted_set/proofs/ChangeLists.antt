@@ -4,14 +4,13 @@ use Rattle.std.specs.List.{AllByRecursion}
 use Rattle.std.specs.List.Sorted.{IsStrictlySortedBy}
 use Rattle.std.specs.Map.{lookup}
 use Rattle.std.specs.Ordering.{is_eq, eq_by_cmp}
-use Rattle.std.specs.declared.cmp.Ordering.TheVariants.{Less}
 use Rattle.std.proofs.Common.{sym, ap, subst, ◌∙◌, true≢false}
-use Rattle.std.proofs.Math.Bool.{or-true}
+use Rattle.std.proofs.Math.Bool.{or-false, or-true}
+use Rattle.std.proofs.lemmas.Bool.{false_from_ne_true, or_parts}
 use Rattle.std.proofs.lemmas.Cmp.{tied_itself}
 use Rattle.std.proofs.lemmas.List.Elements.{All-from_recursion, recursion_from_All}
 use Rattle.ratios.specs.Ratio.{Ratio, ratio_cmp}
 use Rattle.ratios.proofs.Order.{ratio_cmp_total, same_from_eq}
-use Rattle.record_text.specs.Order.{row_cmp}
 use Rattle.datasets.specs.Dataset.{Dataset, at, set_at}
 use Rattle.datasets.specs.Entries.{Row, AreRising, has_row, same_row}
 use Rattle.datasets.proofs.Equality.{same_weights}
@@ -21,14 +20,11 @@ use Rattle.weighted_set.specs.declared.held.Held.{Held}
 use Rattle.weighted_set.specs.declared.weighted.Change.{Change}
 use Rattle.weighted_set.specs.Changes.{changed_rows, IsChangeList, AreChangesOf, applied}
 use Rattle.weighted_set.specs.Held.{HeldRows, HoldsStep, held_changes}
+use Rattle.weighted_set.proofs.Parts.{IsBelowRows, absent_below}
 
 -- ---- tests
-not_true_then_false : (b : Bool) → (b ≡ true → ⊥) → b ≡ false
-not_true_then_false true n = absurd (n refl)
-not_true_then_false false n = refl
-
 differ_test : (q r : Ratio) → q ≢ r → eq_by_cmp ratio_cmp q r ≡ false
-differ_test q r n = not_true_then_false (eq_by_cmp ratio_cmp q r) (λ e. n (same_from_eq q r e))
+differ_test q r n = false_from_ne_true (eq_by_cmp ratio_cmp q r) (λ e. n (same_from_eq q r e))
 
 differ_from_test : (q r : Ratio) → eq_by_cmp ratio_cmp q r ≡ false → q ≢ r
 differ_from_test q r f e = true≢false (sym (ap is_eq (tied_itself ratio_cmp_total q)) ∙ ap (eq_by_cmp ratio_cmp q) e ∙ f)
@@ -37,14 +33,6 @@ differ_from_test q r f e = true≢false (sym (ap is_eq (tied_itself ratio_cmp_to
 same_unless : (q r : Ratio) → (q ≢ r → ⊥) → q ≡ r
 same_unless q r n =
     elim (eq_by_cmp ratio_cmp q r) as (λ b. eq_by_cmp ratio_cmp q r ≡ b → q ≡ r) [ true ↦ λ e. same_from_eq q r e | false ↦ λ f. absurd (n (differ_from_test q r f)) ] refl
-
--- ---- rows
-abbrev IsBelowRows : Row → List Row → Type 0
-IsBelowRows x xs = AllByRecursion (λ y. row_cmp x y ≡ Less) xs
-
-absent_below : (x : Row) (xs : List Row) → IsBelowRows x xs → has_row xs x ≡ false
-absent_below x [] h = refl
-absent_below x (y ∷ ys) h = ap (λ o. is_eq o || has_row ys x) h.0 ∙ absent_below x ys h.1
 
 -- ---- the rows whose two weights differ, as changes
 abbrev change_of : Row × Held → Change
@@ -119,12 +107,8 @@ module _ (A B : Dataset) where
 unchanged : (A : Dataset) (cs : List Change) (x : Row) → has_row (changed_rows cs) x ≡ false → at (applied A cs) x ≡ at A x
 unchanged A [] x h = refl
 unchanged A (c ∷ cs) x h =
-    let p = neither (same_row x c.row) (has_row (changed_rows cs) x) h in
+    let p = or_parts (same_row x c.row) (has_row (changed_rows cs) x) h in
     unchanged (set_at c.row c.new A) cs x p.1 ∙ at-set_at c.row c.new A x ∙ ap (λ b. cond b c.new (at A x)) p.0
-  where
-    neither : (a b : Bool) → (a || b) ≡ false → (a ≡ false) × (b ≡ false)
-    neither true b h = absurd (true≢false h)
-    neither false b h = (refl, h)
 
 changed : (A B : Dataset) (cs : List Change) (x : Row) → AllByRecursion (λ c. c.new ≡ at B c.row) cs → has_row (changed_rows cs) x ≡ true → at (applied A cs) x ≡ at B x
 changed A B [] x h k = absurd (true≢false (sym k))
@@ -133,13 +117,9 @@ changed A B (c ∷ cs) x h k =
     elim (has_row (changed_rows cs) x) as (λ b. has_row (changed_rows cs) x ≡ b → (same_row x c.row || b) ≡ true → at (applied N cs) x ≡ at B x) [
       | true ↦ λ p q. changed N B cs x h.1 p
       | false ↦ λ p q.
-          let here : same_row x c.row ≡ true = only (same_row x c.row) q in
+          let here : same_row x c.row ≡ true = sym (or-false (same_row x c.row)) ∙ q in
           unchanged N cs x p ∙ at-set_at c.row c.new A x ∙ ap (λ b. cond b c.new (at A x)) here ∙ h.0 ∙ ap (at B) (sym (same_row-equal x c.row here))
     ] refl k
-  where
-    only : (b : Bool) → (b || false) ≡ true → b ≡ true
-    only true e = refl
-    only false e = e
 
 pub change_list_leads_there : (cs : List Change) (A B : Dataset) → IsChangeList cs A B → AreChangesOf cs A × (applied A cs ≡ B)
 change_list_leads_there cs A B h =

@@ -1,7 +1,7 @@
 -- The differences of two datasets, by one walk over the entries of both.
 use Rattle.std.specs.Prelude.{◌≡◌, Bool, true, false, cond, ◌&&◌, fold, List, [], ◌∷◌, map, MatchOption, Option, Some, None, refl}
 use Rattle.std.specs.Borrow.{Bor}
-use Rattle.std.specs.List.{AllByRecursion, list_all}
+use Rattle.std.specs.List.{list_all}
 use Rattle.std.specs.List.Sorted.{IsStrictlySortedBy}
 use Rattle.std.specs.Ordering.{is_eq, match_ordering, ordering_reverse}
 use Rattle.std.specs.declared.cmp.Ordering.{Ordering}
@@ -22,35 +22,32 @@ use Rattle.datasets.proofs.Weights.{weight_in-cons, weight_in-below}
 use Rattle.weighted_set.specs.Compared.{compared_entries}
 use Rattle.weighted_set.specs.declared.compared.Compared.{Compared}
 use Rattle.weighted_set.specs.Sizes.{checked_distance}
+use Rattle.weighted_set.proofs.Parts.{IsBelowRows}
 use Rattle.weighted_set.proofs.WeightSets.{and_nested, sum_from, sum_goes_on, sum_stops}
 
 -- ---- rows above a row
--- each of the rows is above x
-abbrev pub AreAbove : Row → List Row → Type 0
-AreAbove x ys = AllByRecursion (λ y. row_cmp x y ≡ Less) ys
-
-above-with_row : (x y : Row) (ys : List Row) → row_cmp x y ≡ Less → AreAbove x ys → AreAbove x (with_row y ys)
+above-with_row : (x y : Row) (ys : List Row) → row_cmp x y ≡ Less → IsBelowRows x ys → IsBelowRows x (with_row y ys)
 above-with_row x y [] p h = (p, tt)
 above-with_row x y (z ∷ zs) p h =
-    elim (row_cmp y z) as (λ o. AreAbove x (match_ordering o (y ∷ z ∷ zs) (z ∷ zs) (z ∷ with_row y zs))) [
+    elim (row_cmp y z) as (λ o. IsBelowRows x (match_ordering o (y ∷ z ∷ zs) (z ∷ zs) (z ∷ with_row y zs))) [
       | Less ↦ (p, h)
       | Equal ↦ h
       | Greater ↦ (h.0, above-with_row x y zs p h.1)
     ]
 
-above-with_rows : (x : Row) (ys zs : List Row) → AreAbove x ys → AreAbove x zs → AreAbove x (with_rows ys zs)
+above-with_rows : (x : Row) (ys zs : List Row) → IsBelowRows x ys → IsBelowRows x zs → IsBelowRows x (with_rows ys zs)
 above-with_rows x [] zs h k = k
 above-with_rows x (y ∷ ys) zs h k = above-with_row x y (with_rows ys zs) h.0 (above-with_rows x ys zs h.1 k)
 
 -- a row below all others comes first
-with_row-first : (x : Row) (ys : List Row) → AreAbove x ys → with_row x ys ≡ x ∷ ys
+with_row-first : (x : Row) (ys : List Row) → IsBelowRows x ys → with_row x ys ≡ x ∷ ys
 with_row-first x [] h = refl
 with_row-first x (y ∷ ys) h = ap (λ o. match_ordering o (x ∷ y ∷ ys) (y ∷ ys) (y ∷ with_row x ys)) h.0
 
 greater_turned : (x y : Row) → row_cmp x y ≡ Less → row_cmp y x ≡ Greater
 greater_turned x y p = row_total.antisymm y x ∙ ap ordering_reverse p
 
-with_rows-first : (y : Row) (xs ys : List Row) → AreAbove y xs → with_rows xs (y ∷ ys) ≡ y ∷ with_rows xs ys
+with_rows-first : (y : Row) (xs ys : List Row) → IsBelowRows y xs → with_rows xs (y ∷ ys) ≡ y ∷ with_rows xs ys
 with_rows-first y [] ys h = refl
 with_rows-first y (x ∷ xs) ys h =
     let rest = with_rows xs ys in
@@ -64,7 +61,7 @@ weight_past e es x p = weight_in-cons x e es ∙ ap (λ b. cond b e.1 (weight_in
 weight_first : (e : Row × Ratio) (es : Entries) → weight_in (e ∷ es) e.0 ≡ e.1
 weight_first e es = weight_in-cons e.0 e es ∙ ap (λ b. cond b e.1 (weight_in es e.0)) (same_row-itself e.0)
 
-map-above : (x : Row) (f g : Row → Ratio) (xs : List Row) → ((y : Row) → row_cmp x y ≡ Less → f y ≡ g y) → AreAbove x xs → map f xs ≡ map g xs
+map-above : (x : Row) (f g : Row → Ratio) (xs : List Row) → ((y : Row) → row_cmp x y ≡ Less → f y ≡ g y) → IsBelowRows x xs → map f xs ≡ map g xs
 map-above x f g [] h k = refl
 map-above x f g (y ∷ ys) h k = ap₂ (λ q qs. q ∷ qs) (h y k.0) (map-above x f g ys h k.1)
 
@@ -94,9 +91,9 @@ right_alone (f ∷ fs) h =
     ap₂ (λ q qs. q ∷ qs) (ap (ratio_sub zero_ratio) (weight_first f fs))
     (map-above f.0 (gap_at [] (f ∷ fs)) (gap_at [] fs) (rows_of fs) (λ y p. ap (ratio_sub zero_ratio) (weight_past f fs y p)) h.0 ∙ right_alone fs h.1)
 
-module _ (e : Row × Ratio) (es : Entries) (above : AreAbove e.0 (rows_of es)) (walk : (fs : Entries) → AreRising (rows_of fs) → WalksTo es fs) where
+module _ (e : Row × Ratio) (es : Entries) (above : IsBelowRows e.0 (rows_of es)) (walk : (fs : Entries) → AreRising (rows_of fs) → WalksTo es fs) where
   -- the first row is below the second list
-  first_below : (fs : Entries) → AreAbove e.0 (rows_of fs) → AreRising (rows_of fs)
+  first_below : (fs : Entries) → IsBelowRows e.0 (rows_of fs) → AreRising (rows_of fs)
       → map (gap_at (e ∷ es) fs) (with_rows (e.0 ∷ rows_of es) (rows_of fs)) ≡ ratio_sub e.1 zero_ratio ∷ gaps es fs
   first_below fs below h =
       let rest = with_rows (rows_of es) (rows_of fs) in
@@ -105,12 +102,12 @@ module _ (e : Row × Ratio) (es : Entries) (above : AreAbove e.0 (rows_of es)) (
       ∙ ap₂ (λ q qs. q ∷ qs) (ap₂ ratio_sub (weight_first e es) (weight_in-below e.0 fs below))
       (map-above e.0 (gap_at (e ∷ es) fs) (gap_at es fs) rest (λ y p. ap (λ q. ratio_sub q (weight_in fs y)) (weight_past e es y p)) after ∙ walk fs h)
 
-  module _ (f : Row × Ratio) (fs : Entries) (over : AreAbove f.0 (rows_of fs)) where
+  module _ (f : Row × Ratio) (fs : Entries) (over : IsBelowRows f.0 (rows_of fs)) where
     -- both lists begin with one row
     first_same : e.0 ≡ f.0 → AreRising (rows_of fs) → map (gap_at (e ∷ es) (f ∷ fs)) (f.0 ∷ with_rows (rows_of es) (rows_of fs)) ≡ ratio_sub e.1 f.1 ∷ gaps es fs
     first_same same h =
         let rest = with_rows (rows_of es) (rows_of fs) in
-        let after = above-with_rows f.0 (rows_of es) (rows_of fs) (subst (λ x. AreAbove x (rows_of es)) same above) over in
+        let after = above-with_rows f.0 (rows_of es) (rows_of fs) (subst (λ x. IsBelowRows x (rows_of es)) same above) over in
         ap₂ (λ q qs. q ∷ qs) (ap₂ ratio_sub (ap (weight_in (e ∷ es)) (sym same) ∙ weight_first e es) (weight_first f fs))
         (map-above f.0 (gap_at (e ∷ es) (f ∷ fs)) (gap_at es fs) rest
         (λ y p. ap₂ ratio_sub (weight_past e es y (subst (λ x. row_cmp x y ≡ Less) (sym same) p)) (weight_past f fs y p)) after ∙ walk fs h)
@@ -136,7 +133,7 @@ module _ (e : Row × Ratio) (es : Entries) (above : AreAbove e.0 (rows_of es)) (
         | Less ↦ λ p. first_below (f ∷ fs) (p, IsBelow-lower e.0 f.0 fs p h.0) h
         | Equal ↦ λ p.
             let same = row_tie e.0 f.0 p in
-            ap (λ xs. map (gap_at (e ∷ es) (f ∷ fs)) (with_row e.0 xs)) (with_rows-first f.0 (rows_of es) (rows_of fs) (subst (λ x. AreAbove x (rows_of es)) same above))
+            ap (λ xs. map (gap_at (e ∷ es) (f ∷ fs)) (with_row e.0 xs)) (with_rows-first f.0 (rows_of es) (rows_of fs) (subst (λ x. IsBelowRows x (rows_of es)) same above))
             ∙ ap (λ o. map (gap_at (e ∷ es) (f ∷ fs)) (match_ordering o (e.0 ∷ f.0 ∷ rest) (f.0 ∷ rest) (f.0 ∷ with_row e.0 rest))) p
             ∙ first_same f fs h.0 same h.1
         | Greater ↦ λ p.

@@ -12,25 +12,20 @@ use Rattle.datasets.specs.Dataset.{Dataset, at, rows, empty, set_at, dataset_of}
 use Rattle.datasets.specs.Entries.{Row, Entries, AreRising, NoneZero, rows_of, has_row, is_zero, same_row, weight_in}
 use Rattle.datasets.proofs.Equality.{same_weights, dataset_of-entries}
 use Rattle.datasets.proofs.Rows.{different_if_less, same_row-equal, same_row-itself, same_row-turned, zero_if_is_zero, other_if_not_is_zero}
-use Rattle.datasets.proofs.Weights.{at-dataset_of, at-empty, at-set_at, weight_in-cons}
+use Rattle.datasets.proofs.Weights.{at-absent, at-dataset_of, at-empty, at-set_at, weight_in-cons}
 use Rattle.weighted_set.specs.declared.weighted.Weighted.{Weighted}
 use Rattle.weighted_set.specs.Changes.{entries_of}
 use Rattle.weighted_set.specs.Held.{AllInRange}
 use Rattle.weighted_set.specs.Parts.{FactoredInRange, IsListed, listed, part_of}
 
 -- ---- rows of entries
-abbrev IsBelowRows : Row → List Row → Type 0
+-- x is below all of these rows
+abbrev pub IsBelowRows : Row → List Row → Type 0
 IsBelowRows x xs = AllByRecursion (λ y. row_cmp x y ≡ Less) xs
 
-below_absent : (x : Row) (es : Entries) → IsBelowRows x (rows_of es) → has_row (rows_of es) x ≡ false
-below_absent x [] h = refl
-below_absent x (e ∷ es) h = ap (λ b. b || has_row (rows_of es) x) (different_if_less x e.0 h.0) ∙ below_absent x es h.1
-
-pub weight_in-absent : (es : Entries) (x : Row) → has_row (rows_of es) x ≡ false → weight_in es x ≡ zero_ratio
-weight_in-absent [] x h = refl
-weight_in-absent (e ∷ es) x h =
-    weight_in-cons x e es
-    ∙ (elim (same_row x e.0) as (λ b. (b || has_row (rows_of es) x) ≡ false → cond b e.1 (weight_in es x) ≡ zero_ratio) [ true ↦ λ p. absurd (true≢false p) | false ↦ λ p. weight_in-absent es x p ] h)
+pub absent_below : (x : Row) (xs : List Row) → IsBelowRows x xs → has_row xs x ≡ false
+absent_below x [] h = refl
+absent_below x (y ∷ ys) h = ap (λ b. b || has_row ys x) (different_if_less x y h.0) ∙ absent_below x ys h.1
 
 -- a row of entries without zeros has a weight other than 0
 pub weight_in-present : (es : Entries) (x : Row) → NoneZero es → has_row (rows_of es) x ≡ true → weight_in es x ≢ zero_ratio
@@ -38,9 +33,6 @@ weight_in-present [] x n h z = true≢false (sym h)
 weight_in-present (e ∷ es) x n h z =
     (elim (same_row x e.0) as (λ b. (b || has_row (rows_of es) x) ≡ true → cond b e.1 (weight_in es x) ≡ zero_ratio → ⊥) [ true ↦ λ _ k. n.0 k | false ↦ λ p k. weight_in-present es x n.1 p k ])
     h (sym (weight_in-cons x e es) ∙ z)
-
-pub at-absent : (A : Dataset) (x : Row) → has_row (rows A) x ≡ false → at A x ≡ zero_ratio
-at-absent A x h = weight_in-absent A.entries x h
 
 pub at-present : (A : Dataset) (x : Row) → has_row (rows A) x ≡ true → at A x ≢ zero_ratio
 at-present A x h = weight_in-present A.entries x A.none_zero h

@@ -3,8 +3,7 @@ use Rattle.std.specs.Prelude.{ℕ, suc, ◌+◌, ◌<◌, ◌≤◌, ◌≡◌, 
 use Rattle.std.specs.List.{position_from}
 use Rattle.std.specs.Map.{lookup}
 use Rattle.std.proofs.Common.{sym, ap, subst, ◌∙◌, arith, get_or}
-use Rattle.std.proofs.lemmas.List.{length-map, get_or-map}
-use Rattle.std.proofs.lemmas.Grind.{common_steps}
+use Rattle.std.proofs.lemmas.List.{length-map, get_or-map, take_all}
 use Rattle.std.proofs.lemmas.List.Sums.{fold_more}
 use Rattle.std.proofs.Math.Seq.{drop-cons}
 use Rattle.std.proofs.Math.ListN.{drop_of_length-le}
@@ -104,9 +103,6 @@ place_past test added i e h is k =
     ap (position_from test i) (entries_from added i e h is) ∙ ap (λ b. cond b (Some i) (position_from test (i + 1) (drop (i + 1) (entries_of added)))) k
 
 -- ---- the end
-take_all : {X : Type 0} (xs : List X) (i : ℕ) → length xs ≤ i → take i xs ≡ xs
-take_all xs i h = grind (arith, common_steps)
-
 module _ (A : Dataset) (added : List Weighted) (i : ℕ) (T : HeldRows) (past : length added ≤ i) (running : IsRunningAt A added i T) where
   past_entries : length (entries_of added) ≤ i
   past_entries = let n = length-entries_of added in omega arith
@@ -115,4 +111,4 @@ module _ (A : Dataset) (added : List Weighted) (i : ℕ) (T : HeldRows) (past : 
   running_stays = running.rest ∙ ap (λ es. position_from (λ q. not (in_range q)) i (running_weights (with_added A (take i (entries_of added))) es)) (drop_of_length-le (entries_of added) past_entries)
 
   pub running_holds : HoldsStep T A (with_added A (entries_of added))
-  running_holds = subst (λ es. HoldsStep T A (with_added A es)) (take_all (entries_of added) i past_entries) running.step
+  running_holds = subst (λ es. HoldsStep T A (with_added A es)) (take_all i (entries_of added) past_entries) running.step
