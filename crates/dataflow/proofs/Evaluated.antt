@@ -54,7 +54,7 @@ module _ (source_count : ℕ) (F : Family) where
       ∙ output_after os ws (As ++ A ∷ []) (omega arith) (λ j l. subst (λ k. RefersBefore source_count k (wire_at ws j)) (sym (move j)) (r (suc j) (omega arith))) i d (omega arith)
 
 -- what is mapped from a list, at a place of it
-get_or-map_at : {A B : Type 0} (f : A → B) (xs : List A) (i : ℕ) (x : A) (d : B) → slice_get xs i ≡ Some x → get_or (map f xs) i d ≡ f x
+pub get_or-map_at : {A B : Type 0} (f : A → B) (xs : List A) (i : ℕ) (x : A) (d : B) → slice_get xs i ≡ Some x → get_or (map f xs) i d ≡ f x
 get_or-map_at f xs i x d e = get_or_from_slice_get (map f xs) i (f x) d (slice_get-map f xs i ∙ ap (option_map f) e)
 
 module _ {N : Type 0} (op : Ghosts N) (nodes : List N) (wires : List Wire) where

@@ -22,7 +22,7 @@ use Rattle.dataflow.specs.Wiring.{AreWired, RefersBefore, RightBefore, wire_at}
 use Rattle.dataflow.proofs.Evaluated.{evals-at, fits_at-is}
 use Rattle.dataflow.proofs.Pairs.{each-set}
 
-no_changes : (A : Dataset) → IsChangeList [] A A
+pub no_changes : (A : Dataset) → IsChangeList [] A A
 unfolding IsStrictlySortedBy
 no_changes A = record { rising = tt; each = All-from_recursion _ [] tt; complete = λ x n. absurd (n refl) }
 

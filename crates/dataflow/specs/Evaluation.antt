@@ -1,18 +1,11 @@
 -- The datasets of a plan's steps, from those of its sources.
 use Rattle.std.specs.Prelude.{ℕ, ◌-◌, Bool, true, List, [], ◌∷◌, ◌++◌, length, get_or, map, Option, Some, None}
 use Rattle.datasets.specs.Dataset.{Dataset, empty}
+pub use Rattle.datasets.specs.Families.{Family, dataset_at}
 use Rattle.weighted_set.specs.declared.operator.Operator.{Ghosts}
 use Rattle.dataflow.specs.declared.wire.Wire.{Wire}
 use Rattle.dataflow.specs.declared.wire.Wire.TheVariants.{Source, Of}
 use Rattle.dataflow.specs.Wiring.{wire_at}
-
--- a dataset for each source
-abbrev pub Family : Type 0
-Family = List Dataset
-
--- the dataset at a place, empty past the end
-abbrev pub dataset_at : List Dataset → ℕ → Dataset
-dataset_at As i = get_or As i empty
 
 -- the dataset of a right input, empty where it is absent
 abbrev pub right_dataset : List Dataset → Option ℕ → Dataset

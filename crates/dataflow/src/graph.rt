@@ -20,6 +20,7 @@ use steps::Steps;
 use weighted_set::{Change, HeldSet, Memory, Operator};
 
 /// A plan with an operator for each step, and the output of the last step.
+#[derive(Drop)]
 pub struct Graph<N> {
     // The step of a source has an operator too, which is never asked for anything.
     wires: Vec<Wire>,

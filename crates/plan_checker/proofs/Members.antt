@@ -1,35 +1,18 @@
 -- Lists read one member after the other.
 use Rattle.std.specs.Prelude.{◌≡◌, ℕ, zero, suc, ◌+◌, ◌<◌, ◌≤◌, Bool, ◌&&◌, true, false, List, [], ◌∷◌, ◌++◌, length, slice_get, Some}
 use Rattle.std.specs.List.{flat_map, list_all}
-use Rattle.std.proofs.Common.{refl, sym, ap, ap₂, ◌∙◌, subst, add-one, take, drop, set}
-use Rattle.std.proofs.Math.Seq.{drop-cons, take-suc}
-use Rattle.std.proofs.lemmas.Bool.{and_from, and_left, and_parts, and_right}
+use Rattle.std.proofs.Common.{refl, sym, ap, ◌∙◌, subst, take, set}
+use Rattle.std.proofs.lemmas.Bool.{and_from, and_left, and_right}
 use Rattle.std.proofs.lemmas.List.{take_all, take_more_set}
 use Rattle.std.proofs.lemmas.List.Folds.{list_all-append}
-use Rattle.std.proofs.lemmas.Option.{get_or_from_slice_get, slice_get_within}
+use Rattle.record_text.proofs.Lists.{front_more}
 use Rattle.plan_model.specs.Evaluation.{last_or}
-
--- the member at a place ends the front before the next place
-pub front_more : {X : Type 0} (xs : List X) (i : ℕ) (x : X) → slice_get xs i ≡ Some x → take (i + 1) xs ≡ take i xs ++ x ∷ []
-front_more xs i x at =
-    ap (λ n. take n xs) (add-one i) ∙ take-suc xs i x (slice_get_within xs i x at) ∙ ap (λ y. take i xs ++ y ∷ []) (get_or_from_slice_get xs i x x at)
-
--- and begins the rest
-pub rest_from : {X : Type 0} (xs : List X) (i : ℕ) (x : X) → slice_get xs i ≡ Some x → drop i xs ≡ x ∷ drop (i + 1) xs
-rest_from xs i x at =
-    drop-cons xs i x (slice_get_within xs i x at) ∙ ap₂ (λ y n. y ∷ drop n xs) (get_or_from_slice_get xs i x x at) (sym (add-one i))
 
 -- a list is written into another one, one member after the other
 pub written_next : {X : Type 0} (xs ys : List X) (i : ℕ) (x : X) → slice_get xs i ≡ Some x → i < length ys → take i ys ≡ take i xs → take (i + 1) (set ys i x) ≡ take (i + 1) xs
 written_next xs ys i x at inside front = take_more_set ys i x inside ∙ ap (λ zs. zs ++ x ∷ []) front ∙ sym (front_more xs i x at)
 
 -- ---- tests
-
--- a test that all members pass is passed by the member at a place
-pub passes_at : {X : Type 0} (p : X → Bool) (xs : List X) (i : ℕ) (x : X) → slice_get xs i ≡ Some x → list_all p xs ≡ true → p x ≡ true
-passes_at p [] i x at all = cc
-passes_at p (y ∷ xs) zero x at all = let same : y ≡ x = cc in subst (λ z. p z ≡ true) same ((and_parts (p y) (list_all p xs) all).0)
-passes_at p (y ∷ xs) (suc i) x at all = passes_at p xs i x at ((and_parts (p y) (list_all p xs) all).1)
 
 -- one member that fails a test settles it
 pub fails_at : {X : Type 0} (p : X → Bool) (xs : List X) (i : ℕ) (x : X) → slice_get xs i ≡ Some x → p x ≡ false → list_all p xs ≡ false

@@ -14,7 +14,8 @@ use Rattle.plan_model.specs.Limits.{are_exprs, are_steps, is_guard, is_item, is_
 use Rattle.plan_model.specs.Values.{has_columns, term_of}
 use Rattle.plan_model.proofs.Accepted.{passed}
 use Rattle.plan_checker.specs.Steps.{are_few, first_fault}
-use Rattle.plan_checker.proofs.Members.{list_all-flat_map, passes_at}
+use Rattle.record_text.proofs.Lists.{passes_at}
+use Rattle.plan_checker.proofs.Members.{list_all-flat_map}
 
 -- ---- items
 

@@ -18,7 +18,7 @@ use Rattle.plan_model.specs.Types.{columns, columns_step, sign_step, signs}
 use Rattle.plan_model.proofs.StepByStep.{length-step_by_step_after, step_by_step_after-snoc}
 use Rattle.plan_checker.specs.Checked.{CheckedPlan, checked_of}
 use Rattle.plan_checker.specs.Steps.{are_few, first_fault, row_step, rows_of_steps}
-use Rattle.plan_checker.proofs.Members.{front_more, rest_from}
+use Rattle.record_text.proofs.Lists.{front_more, rest_from}
 use Rattle.plan_checker.proofs.Parts.{faultless, some_steps, step_of_plan}
 use Rattle.plan_checker.proofs.Rows.{first_fault-of_step, last_counts}
 

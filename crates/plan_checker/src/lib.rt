@@ -18,5 +18,6 @@ mod walk;
 
 pub use checked::Checked;
 pub use columns::columns_of;
+pub use places::place_of;
 pub use record_text::Memory;
 pub use walk::{PlanFault, check};

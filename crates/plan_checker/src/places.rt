@@ -6,8 +6,8 @@ ghost use Rattle.plan_model.specs.Types.{source_named};
 use plan_model::{SourceType, SourceTypes};
 use record_text::Name;
 
-// The place of the source of a name, if there is one.
-pub(crate) fn place_of(name: &Name, types: &SourceTypes) -> Option<usize>
+/// The place of the source of a name, if there is one.
+pub fn place_of(name: &Name, types: &SourceTypes) -> Option<usize>
     ensures { result ≡ place_of name.now types.now }
 {
     for i in 0..types.len() {

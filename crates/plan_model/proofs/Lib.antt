@@ -7,3 +7,5 @@ pub mod Accepted
 pub mod Reducers
 pub mod TypedSteps
 pub mod AcceptedTypes
+pub mod Extended
+pub mod AcceptedLater

@@ -1,5 +1,5 @@
 -- Which plans are accepted for some sources, and the first fault of those that are not.
-use Rattle.std.specs.Prelude.{◌≡◌, ℕ, ◌+◌, Bool, ◌&&◌, true, not, nat_le, nat_lt, if◌then◌else◌, is_some, List, [], ◌∷◌, ◌++◌, length, map, slice_get, Option, Some, None, option_to_list, flat_map}
+use Rattle.std.specs.Prelude.{◌≡◌, ℕ, Bool, ◌&&◌, true, not, nat_le, nat_lt, if◌then◌else◌, List, [], ◌∷◌, ◌++◌, length, Option, Some, None, option_to_list, flat_map}
 use Rattle.std.specs.List.{list_all, range_with_len}
 use Rattle.record_text.specs.declared.kinds.Kind.{Kind}
 use Rattle.record_text.specs.declared.kinds.Kind.TheVariants.{Int}
@@ -10,7 +10,6 @@ use Rattle.plan_model.specs.declared.step.Item.{Item}
 use Rattle.plan_model.specs.declared.step.Reducer.{Reducer}
 use Rattle.plan_model.specs.declared.step.Step.{Step}
 use Rattle.plan_model.specs.declared.source_types.SourceType.{SourceType}
-use Rattle.plan_model.specs.Evaluation.{step_by_step}
 use Rattle.plan_model.specs.Sources.{has_name}
 use Rattle.plan_model.specs.Types.{column_kind, columns, columns_at, columns_step, first_row, flag_at, kind_over, kinds_over, signs}
 use Rattle.plan_model.specs.Uses.{uses_of_steps, uses_step}

@@ -1,5 +1,5 @@
 -- What each step of a plan makes of the sources.
-use Rattle.std.specs.Prelude.{ℕ, ◌+◌, pos, ℤ, ◌+ℤ◌, Bool, true, not, if◌then◌else◌, List, [], ◌∷◌, ◌++◌, flat_map, fold, length, map, replicate, slice_index_or, Option, Some, None, option_map}
+use Rattle.std.specs.Prelude.{ℕ, pos, ℤ, ◌+ℤ◌, Bool, true, not, if◌then◌else◌, List, [], ◌∷◌, ◌++◌, flat_map, fold, length, map, replicate, slice_index_or, Option, Some, None, option_map}
 use Rattle.std.specs.Option.{unwrap_or}
 use Rattle.std.specs.Ordering.{int_eq, is_lt}
 use Rattle.ratios.specs.Ratio.{Ratio, ratio_add, ratio_sub}
@@ -8,6 +8,7 @@ use Rattle.record_text.specs.declared.atom.Atom.TheVariants.{Int, Text}
 use Rattle.record_text.specs.Order.{atom_cmp}
 use Rattle.datasets.specs.Dataset.{Dataset, empty}
 use Rattle.datasets.specs.Entries.{Row}
+pub use Rattle.datasets.specs.Families.{Family, dataset_at}
 use Rattle.prim_table.specs.Primitives.{clamped}
 use Rattle.operators.specs.Weights.{ratio_max, ratio_min}
 use Rattle.operators.specs.Operators.{Giving, filtered, grouped, joined, pointwise, selected, shaved, spread}
@@ -102,14 +103,6 @@ step_by_step_after f made (s ∷ ss) = step_by_step_after f (made ++ f s made �
 
 abbrev pub step_by_step : {X : Type 0} → (Step → List X → X) → List Step → List X
 step_by_step f steps = step_by_step_after f [] steps
-
--- a family: one dataset for each source, in the order of the sources
-abbrev pub Family : Type 0
-Family = List Dataset
-
--- the dataset at a place
-abbrev pub dataset_at : List Dataset → ℕ → Dataset
-dataset_at As i = slice_index_or As i empty
 
 -- the dataset of a step: the family's at a source step, else the operator on those of the earlier steps
 abbrev pub eval_step : List SourceType → Family → Step → List Dataset → Dataset

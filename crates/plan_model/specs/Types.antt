@@ -13,7 +13,7 @@ use Rattle.plan_model.specs.declared.step.Reducer.{Reducer}
 use Rattle.plan_model.specs.declared.step.SetKind.{SetKind}
 use Rattle.plan_model.specs.declared.step.Step.{Step}
 use Rattle.plan_model.specs.declared.source_types.SourceType.{SourceType}
-use Rattle.plan_model.specs.Evaluation.{Family, eval_at, step_by_step}
+use Rattle.plan_model.specs.Evaluation.{Family, step_by_step}
 use Rattle.plan_model.specs.Sources.{place_of}
 use Rattle.plan_model.specs.Values.{kind_in, term_of}
 

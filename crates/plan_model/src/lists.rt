@@ -1,9 +1,11 @@
 //! The lists that steps hold.
-ghost use Rattle.std.specs.Prelude.{◌≡◌, ◌<◌, ◌≤◌, length, slice_get};
+ghost use Rattle.std.specs.Prelude.{◌≡◌, ◌<◌, ◌≤◌, IfOk, length, slice_get};
 ghost use Rattle.plan_model.specs.Pieces.{piece_count};
 
 use crate::expr::Expr;
 use crate::step::{Item, Run};
+use record_text::Memory;
+use std::alloc::Global;
 use std::marker::Model;
 
 /// 1 to 16 expressions, seen as their list.
@@ -52,6 +54,18 @@ impl Exprs {
         ensures { slice_get self.now i ≡ Some result.now }
     {
         &self.list[i]
+    }
+
+    /// Equal expressions.
+    pub fn try_copy(&self, alloc: Global) -> Result<Exprs, Memory>
+        ensures { IfOk result (λ copy. copy ≡ self.now) }
+    {
+        let mut list = Vec::with_capacity(alloc, self.list.len())?;
+        for expr in self.list.as_slice() {
+            let copy = expr.try_copy(alloc)?;
+            list.push(copy)?;
+        }
+        Ok(Exprs { list })
     }
 }
 

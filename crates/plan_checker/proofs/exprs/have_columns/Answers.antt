@@ -1,7 +1,8 @@
 use Rattle.std.proofs.Common.{length, sym, ◌∙◌}
 use Rattle.plan_model.specs.Limits.{is_expr}
 use Rattle.plan_model.specs.Values.{has_columns, term_of}
-use Rattle.plan_checker.proofs.Members.{fails_at, passes_at, passes_more}
+use Rattle.record_text.proofs.Lists.{passes_at}
+use Rattle.plan_checker.proofs.Members.{fails_at, passes_more}
 use Rattle.plan_checker.proofs.exprs.have_columns.Goals as goal
 
 pub expr_has_columns-requires : goal.expr_has_columns-requires

@@ -2,7 +2,8 @@ use Rattle.std.proofs.Common.{ap, length, sym, ◌∙◌}
 use Rattle.std.specs.Prelude.{is_some}
 use Rattle.plan_model.specs.Limits.{is_expr}
 use Rattle.plan_model.specs.Values.{has_columns, is_typed, term_of}
-use Rattle.plan_checker.proofs.Members.{fails_at, passes_at, passes_more}
+use Rattle.record_text.proofs.Lists.{passes_at}
+use Rattle.plan_checker.proofs.Members.{fails_at, passes_more}
 use Rattle.plan_checker.proofs.exprs.have_kinds.Goals as goal
 
 pub kind_of_expr-requires : goal.kind_of_expr-requires

@@ -6,7 +6,8 @@ use Rattle.record_text.specs.declared.kinds.Kind.TheVariants.{Int}
 use Rattle.plan_model.specs.Limits.{is_expr}
 use Rattle.plan_model.specs.Types.{kind_over, kinds_over}
 use Rattle.plan_model.specs.Values.{has_columns, term_of}
-use Rattle.plan_checker.proofs.Members.{passes_at, written_next}
+use Rattle.record_text.proofs.Lists.{passes_at}
+use Rattle.plan_checker.proofs.Members.{written_next}
 use Rattle.plan_checker.proofs.exprs.kinds_over.Goals as goal
 
 pub kind_of_expr-requires : goal.kind_of_expr-requires

@@ -4,7 +4,8 @@ use Rattle.plan_model.specs.declared.step.Item.{Item}
 use Rattle.plan_model.specs.Acceptance.{have_columns}
 use Rattle.plan_model.specs.Limits.{is_item}
 use Rattle.plan_model.specs.Values.{has_columns, term_of}
-use Rattle.plan_checker.proofs.Members.{fails_at, list_all-flat_map, passes_at, passes_more, passes_whole}
+use Rattle.record_text.proofs.Lists.{passes_at}
+use Rattle.plan_checker.proofs.Members.{fails_at, list_all-flat_map, passes_more, passes_whole}
 use Rattle.plan_checker.proofs.items.items_have_columns.Goals as goal
 
 pub item_has_columns-requires : goal.item_has_columns-requires

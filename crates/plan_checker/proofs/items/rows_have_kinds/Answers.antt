@@ -2,7 +2,8 @@ use Rattle.std.proofs.Common.{ap, sym, ◌∙◌}
 use Rattle.std.specs.List.{list_all}
 use Rattle.plan_model.specs.Limits.{is_item}
 use Rattle.plan_checker.specs.Steps.{row_has_kinds}
-use Rattle.plan_checker.proofs.Members.{fails_at, passes_at, passes_more}
+use Rattle.record_text.proofs.Lists.{passes_at}
+use Rattle.plan_checker.proofs.Members.{fails_at, passes_more}
 use Rattle.plan_checker.proofs.Parts.{row_within}
 use Rattle.plan_checker.proofs.items.rows_have_kinds.Goals as goal
 
