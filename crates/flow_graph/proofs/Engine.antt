@@ -1,6 +1,7 @@
 -- What outputs worked out key by key say of the whole output.
 use Rattle.std.specs.Prelude.{◌≡◌, ◌≢◌, ◌↔◌, Bool, true, false, All, List, refl}
 use Rattle.std.proofs.Common.{sym, ap, subst, ◌∙◌, true≢false}
+use Rattle.std.proofs.lemmas.Bool.{false_from_ne_true}
 use Rattle.ratios.specs.Ratio.{one_ratio, zero_ratio}
 use Rattle.datasets.specs.Dataset.{Dataset, at}
 use Rattle.datasets.specs.Entries.{Row, has_row, is_zero}
@@ -17,10 +18,6 @@ use Rattle.flow_graph.specs.Standing.{AreSettled, ArePartsOf, HoldParts, HoldSet
 use Rattle.flow_graph.specs.Staging.{AreStaged, outputs_by}
 use Rattle.weighted_set.specs.Parts.{StoreParts, committed_part, pending_part}
 use Rattle.flow_graph.proofs.Staged.{staged_step}
-
-not_true : (b : Bool) → (b ≡ true → ⊥) → b ≡ false
-not_true true n = absurd (n refl)
-not_true false n = refl
 
 -- a changed row has a weight before or after
 pub rows_of_changes : (TakesRow : Row → Type 0) (A B : Dataset) (cs : List Change) → ((x : Row) → at A x ≢ zero_ratio → TakesRow x) → ((x : Row) → at B x ≢ zero_ratio → TakesRow x) → IsChangeList cs A B → All (λ c. TakesRow c.row) cs
@@ -145,5 +142,5 @@ module _ {left_keys right_keys : Row → Dataset} {owner : Row → Row} {outputs
 
       pub misfits_after : (k : Row) × (part_fits k (pending_part new_left k) (pending_part new_right k) ≡ false) → fits C D ≡ false
       misfits_after p =
-          not_true (fits C D) (λ f.
+          false_from_ne_true (fits C D) (λ f.
           true≢false (sym (part_fits_is (pending_part new_left) (pending_part new_right) C D held_after p.0 ∙ ((laws.by_part C D m.takes_after left_range right_range).0 f).2 p.0) ∙ p.1))

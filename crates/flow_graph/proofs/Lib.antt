@@ -2,3 +2,11 @@ pub mod Pending
 pub mod Staged
 pub mod Engine
 pub mod WholeInputs
+pub mod Lists
+pub mod PlanSteps
+pub mod PlanGraphs
+pub mod FreshGraphs
+pub mod Turning
+pub mod Building
+pub mod DeclaredLater
+pub mod Trials

@@ -2,6 +2,7 @@
 use Rattle.std.specs.Prelude.{◌≡◌, ◌≢◌, ℕ, ◌+◌, ◌<◌, Bool, true, false, cond, ◌||◌, List, [], ◌∷◌, ◌++◌, length, take, refl}
 use Rattle.std.specs.List.{dedup, dedup_from}
 use Rattle.std.proofs.Common.{sym, ap, subst, ◌∙◌, get_or}
+use Rattle.std.proofs.Math.Bool.{or-false, or_assoc}
 use Rattle.std.proofs.lemmas.List.{take_more}
 use Rattle.std.proofs.lemmas.List.Folds.{list_any-append}
 use Rattle.std.proofs.lemmas.List.Sums.{fold_more}
@@ -37,12 +38,8 @@ pub each_more : (P : Row → Type 0) (done : List Row) (x : Row) → ((k : Row) 
 each_more P done x all here k h =
     elim (same_row k x) as (λ b. same_row k x ≡ b → (has_row done k || (b || false)) ≡ true → P k) [
       | true ↦ λ p _. subst P (sym (same_row-equal k x p)) here
-      | false ↦ λ p q. all k (first (has_row done k) q)
+      | false ↦ λ p q. all k (sym (or-false (has_row done k)) ∙ q)
     ] refl (sym (list_any-append (same_row k) done (x ∷ [])) ∙ h)
-  where
-    first : (b : Bool) → (b || false) ≡ true → b ≡ true
-    first true q = refl
-    first false q = q
 
 -- ---- keys
 -- a slice has the entries of the list that it is of
@@ -53,16 +50,8 @@ pub noted_row : (new old : List Row) (x copy : Row) → new ≡ old ++ copy ∷ 
 noted_row new old x copy e f = e ∙ ap (λ r. old ++ r ∷ []) f
 
 keys_append : (ks : List Weighted) (e : Weighted) (k : Row) → has_row (rows_of (entries_of (ks ++ e ∷ []))) k ≡ (has_row (rows_of (entries_of ks)) k || same_row k e.row)
-keys_append [] e k = last (same_row k e.row)
-  where
-    last : (b : Bool) → (b || false) ≡ b
-    last true = refl
-    last false = refl
-keys_append (d ∷ ks) e k = ap (λ b. same_row k d.row || b) (keys_append ks e k) ∙ regrouped (same_row k d.row) (has_row (rows_of (entries_of ks)) k) (same_row k e.row)
-  where
-    regrouped : (a b c : Bool) → (a || (b || c)) ≡ ((a || b) || c)
-    regrouped true b c = refl
-    regrouped false b c = refl
+keys_append [] e k = or-false (same_row k e.row)
+keys_append (d ∷ ks) e k = ap (λ b. same_row k d.row || b) (keys_append ks e k) ∙ sym (or_assoc (same_row k d.row) (has_row (rows_of (entries_of ks)) k) (same_row k e.row))
 
 pub keys_more : (ks : List Weighted) (i : ℕ) (e : Weighted) → i < length ks → e ≡ get_or ks i e → (k : Row) → has_row (rows_of (entries_of (take (i + 1) ks))) k ≡ (has_row (rows_of (entries_of (take i ks))) k || same_row k e.row)
 keys_more ks i e h is k = ap (λ es. has_row (rows_of (entries_of es)) k) (take_item ks i e h is) ∙ keys_append (take i ks) e k

@@ -3,7 +3,7 @@ use Rattle.std.specs.Prelude.{◌≡◌, ◌≢◌, ℕ, ◌+◌, ◌<◌, ◌�
 use Rattle.std.specs.List.{AllByRecursion}
 use Rattle.std.specs.Map.{lookup}
 use Rattle.std.proofs.Common.{sym, ap, subst, ◌∙◌, true≢false, arith, get_or}
-use Rattle.std.proofs.Math.Bool.{or-true}
+use Rattle.std.proofs.Math.Bool.{or-false, or-true}
 use Rattle.std.proofs.lemmas.List.{take_all}
 use Rattle.std.proofs.lemmas.List.Elements.{All-from_recursion}
 use Rattle.std.proofs.lemmas.List.Folds.{list_any-append}
@@ -11,11 +11,12 @@ use Rattle.ratios.specs.Ratio.{Ratio, zero_ratio}
 use Rattle.datasets.specs.Dataset.{Dataset, at, rows}
 use Rattle.datasets.specs.Entries.{Row, has_row, rows_of, same_row, weight_in}
 use Rattle.datasets.proofs.Rows.{same_row-equal, same_row-itself, same_row-turned}
+use Rattle.datasets.proofs.Weights.{at-absent}
 use Rattle.weighted_set.specs.declared.held.Held.{Held}
 use Rattle.weighted_set.specs.declared.weighted.Weighted.{Weighted}
 use Rattle.weighted_set.specs.Changes.{entries_of}
 use Rattle.weighted_set.specs.Held.{HeldRows, HoldsStep, PutsAt}
-use Rattle.weighted_set.proofs.Parts.{at-absent, at-present, entries_have_weights}
+use Rattle.weighted_set.proofs.Parts.{at-present, entries_have_weights}
 use Rattle.weighted_set.proofs.Running.{entry_is, length-entries_of}
 use Rattle.weighted_set.proofs.Tables.{at-dataset_by, weight_found}
 use Rattle.weighted_set.specs.declared.held.View.{View}
@@ -66,14 +67,10 @@ module _ (view : View) (A : Dataset) (list : List Weighted) (same : entries_of l
             ∙ ap (λ k. Some (with_weight view (at A x) k)) (held_in-found now x ∙ ap held_found (first x ∙ ap (λ k. cond seen (Some (with_weight view (at A x) k)) o) (held_in-found old x)))
             ∙ ap Some (replaced_again view (at A x) seen o ∙ ap (with_weight view (at A x)) (sym (held_in-found old x)))
             ∙ ap (λ b. cond b new o) (sym (or-true seen))
-        | false ↦ λ p. first x ∙ ap (λ b. cond b new o) (sym (or_false seen))
+        | false ↦ λ p. first x ∙ ap (λ b. cond b new o) (sym (or-false seen))
       ] refl)
       ∙ ap (λ b. cond (seen || b) new o) (same_row-turned e.row x)
       ∙ ap (λ b. cond b new o) (sym (keys_more list i e h is x))
-    where
-      or_false : (b : Bool) → (b || false) ≡ b
-      or_false true = refl
-      or_false false = refl
 
   pub weights_all : (i : ℕ) (now : HeldRows) → length list ≤ i → HoldsFirst i now → HoldsWeights view A old now
   weights_all i now past first x =

@@ -1,3 +1,8 @@
 pub mod Standing
 pub mod Staging
 pub mod WholeInputs
+pub mod Steps
+pub mod Graphs
+pub mod Fresh
+pub mod PlanGraphs
+pub mod Trials
