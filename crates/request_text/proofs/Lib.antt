@@ -1,5 +1,2 @@
 pub mod Lines
-pub mod Plain
-pub mod CsvRecords
-pub mod Fronts
-pub mod ChangeKinds
+pub mod ListData

@@ -1,14 +1,15 @@
 //! The fields of a request, one reader for each kind of field. A field that is missing or is not as its
 //! reader asks is `Shape` with its name.
-ghost use Rattle.std.specs.Prelude.{◌≡◌, ◌≤◌, length, IfOk, map, option_map, option_and_then, ⊤};
+ghost use Rattle.std.specs.Prelude.{◌≡◌, ◌≤◌, codes, length, IfOk, map, option_map, option_and_then};
+ghost use Rattle.serde_json.specs.Find.{get};
 ghost use Rattle.serde_json.specs.View.{view, members_view};
 ghost use Rattle.json_fields.specs.Fields.{list_of};
 ghost use Rattle.json_fields.specs.Walk.{each};
 ghost use Rattle.request_text.specs.Gives.{Gives, GivesBy};
-ghost use Rattle.request_text.specs.Fields.{shape, no_other, text_in, bool_in, flag_in, whole_in, list_in, weight_in, weights_of, kind_in, kinds_in, row_in, rows_in, named};
+ghost use Rattle.request_text.specs.Fields.{shape, no_other, text_in, bool_in, flag_in, whole_in, list_in, weight_in, weights_of, kind_in, kinds_in, row_in, rows_in, named, one_of};
 
 use crate::lists::{FieldText, Rows, Weights};
-use crate::refusal::{ReadFault, Refusal};
+use crate::refusal::{ReadFault, Refusal, Thing};
 use frac_core::Frac;
 use json_fields::{are_texts, list_of, unknown_key};
 use record_text::{Kind, Kinds, Name, Row, RowFault, row_from_json};
@@ -22,6 +23,7 @@ pub fn refuse<T>(alloc: Global, field: &str) -> Result<T, ReadFault>
     let text = String::from_str(alloc, field)?;
     Err(ReadFault::Refused(Refusal::Shape {
         field: FieldText::from_string(text),
+        step: None,
     }))
 }
 
@@ -86,6 +88,18 @@ pub fn whole(
     match value.get(field).and_then(Value::as_u64) {
         Some(number) if number >= low && number <= high => Ok(number),
         _ => refuse(alloc, field),
+    }
+}
+
+/// Which of the fields `plan` and `source` is there, where just one of them is. What they hold is not looked at.
+pub fn one_of(alloc: Global, value: &Value) -> Result<Thing, ReadFault>
+    ensures { Gives result (one_of (get (codes "plan") (view value.now)) (get (codes "source") (view value.now))) }
+{
+    match (value.get("plan"), value.get("source")) {
+        (None, None) => refuse(alloc, "plan"),
+        (Some(_), None) => Ok(Thing::Plan),
+        (None, Some(_)) => Ok(Thing::Source),
+        (Some(_), Some(_)) => refuse(alloc, "source"),
     }
 }
 

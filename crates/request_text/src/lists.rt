@@ -4,7 +4,7 @@ ghost use Rattle.ratios.specs.Ratio.{Ratio};
 ghost use Rattle.record_text.specs.declared.atom.Atom.{Atom};
 
 use frac_core::Frac;
-use record_text::Row;
+use record_text::{Name, Row};
 use std::marker::Model;
 
 /// Weights, in order.
@@ -85,6 +85,34 @@ impl Rows {
 
     /// The rows, lent.
     pub fn as_slice(&self) -> &[Row]
+        ensures { result.now ≡ self.now }
+    {
+        self.list.as_slice()
+    }
+}
+
+/// Sources by name, each with the number of its uses or what is charged for them.
+#[derive(Drop)]
+pub struct Uses {
+    list: Vec<(Name, u64)>,
+}
+
+impl Model for Uses {
+    ghost Value = { List (List ℕ × ℕ) };
+
+    ghost view = { λ uses. uses.list.items };
+}
+
+impl Uses {
+    /// The sources and numbers of this list.
+    pub fn from_vec(list: Vec<(Name, u64)>) -> Uses
+        ensures { result ≡ list.items }
+    {
+        Uses { list }
+    }
+
+    /// The sources and numbers, lent.
+    pub fn as_slice(&self) -> &[(Name, u64)]
         ensures { result.now ≡ self.now }
     {
         self.list.as_slice()

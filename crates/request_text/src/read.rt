@@ -1,15 +1,16 @@
 //! From a line to a request.
-ghost use Rattle.std.specs.Prelude.{◌≡◌, IfOk, codes, map, option_map, option_and_then, ⊤};
+ghost use Rattle.std.specs.Prelude.{◌≡◌, IfOk, map};
 ghost use Rattle.serde_json.specs.View.{view, members_view};
-ghost use Rattle.json_fields.specs.Fields.{list_of};
 ghost use Rattle.request_text.specs.Gives.{Gives};
-ghost use Rattle.request_text.specs.Fields.{shape, no_other};
-ghost use Rattle.request_text.specs.Requests.{op_of, op_fields, sum_in, source_in, update_in, exact_in, request_of, request_in_json, request_on, IsWithinLimits};
+ghost use Rattle.request_text.specs.Requests.{op_of, op_fields, sum_in, source_in, update_in, plan_in, drop_in, exact_in, request_of, request_in_json, request_on, IsWithinLimits};
 
-use crate::fields::{boolean, flag, kinds, named, only_known, refuse, rows, text, weights, whole};
+use crate::fields::{
+    boolean, flag, kinds, named, one_of, only_known, refuse, rows, text, weights, whole,
+};
 use crate::lists::Bytes;
-use crate::refusal::{ReadFault, Refusal};
-use crate::request::{Op, Request, Target};
+use crate::plans::plan;
+use crate::refusal::{ReadFault, Refusal, thing_text};
+use crate::request::{Op, Request, target_of};
 use serde_json::{Map, Value};
 use std::alloc::Global;
 
@@ -66,6 +67,8 @@ fn request(alloc: Global, value: &Value) -> Result<Request, ReadFault>
             Op::Sum => sum(alloc, value, members),
             Op::Source => source(alloc, value, members),
             Op::Update => update(alloc, value, members),
+            Op::Plan => new_plan(alloc, value, members),
+            Op::Drop => drop_plan(alloc, value, members),
             Op::Exact => exact(alloc, value, members),
         },
     }
@@ -82,6 +85,10 @@ fn op(value: &Value) -> Option<Op>
         Some(Op::Source)
     } else if name == "update" {
         Some(Op::Update)
+    } else if name == "plan" {
+        Some(Op::Plan)
+    } else if name == "drop" {
+        Some(Op::Drop)
     } else if name == "exact" {
         Some(Op::Exact)
     } else {
@@ -97,6 +104,8 @@ fn fields(op: Op) -> &'static [&'static str]
         Op::Sum => &["op", "weights"],
         Op::Source => &["op", "name", "kinds", "signed", "budget"],
         Op::Update => &["op", "source", "csv", "header"],
+        Op::Plan => &["op", "name", "plan"],
+        Op::Drop => &["op", "plan"],
         Op::Exact => &["op", "plan", "source", "rows"],
     }
 }
@@ -148,25 +157,50 @@ fn update(alloc: Global, value: &Value, members: &Map<String, Value>) -> Result<
     })
 }
 
+#[tactic(auto, unfolding(crate::specs::Requests::plan_in))]
+fn new_plan(
+    alloc: Global,
+    value: &Value,
+    members: &Map<String, Value>,
+) -> Result<Request, ReadFault>
+    ensures value { Gives result (plan_in (view value.now) (members_view members.now.entries)) }
+    ensures limits { IfOk result IsWithinLimits }
+{
+    let text = text(alloc, value, "name")?;
+    let plan = plan(alloc, value.get("plan"))?;
+    only_known(alloc, members, fields(Op::Plan))?;
+    let name = named(alloc, "name", text)?;
+    Ok(Request::Plan { name, plan })
+}
+
+#[tactic(auto, unfolding(crate::specs::Requests::drop_in))]
+fn drop_plan(
+    alloc: Global,
+    value: &Value,
+    members: &Map<String, Value>,
+) -> Result<Request, ReadFault>
+    ensures value { Gives result (drop_in (view value.now) (members_view members.now.entries)) }
+    ensures limits { IfOk result IsWithinLimits }
+{
+    let text = text(alloc, value, "plan")?;
+    only_known(alloc, members, fields(Op::Drop))?;
+    let plan = named(alloc, "plan", text)?;
+    Ok(Request::Drop { plan })
+}
+
 #[tactic(auto, unfolding(crate::specs::Requests::exact_in))]
 fn exact(alloc: Global, value: &Value, members: &Map<String, Value>) -> Result<Request, ReadFault>
     ensures value { Gives result (exact_in (view value.now) (members_view members.now.entries)) }
     ensures limits { IfOk result IsWithinLimits }
 {
-    let Some(source) = value.get("source") else {
-        return refuse(alloc, "plan");
-    };
-    if value.get("plan").is_some() {
-        return refuse(alloc, "source");
-    }
-    let Some(text) = source.as_str() else {
-        return refuse(alloc, "source");
-    };
+    let thing = one_of(alloc, value)?;
+    let field = thing_text(thing);
+    let text = text(alloc, value, field)?;
     let rows = rows(alloc, value)?;
     only_known(alloc, members, fields(Op::Exact))?;
-    let name = named(alloc, "source", text)?;
+    let name = named(alloc, field, text)?;
     Ok(Request::Exact {
-        of: Target::Source(name),
+        of: target_of(thing, name),
         rows,
     })
 }

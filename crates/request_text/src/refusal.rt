@@ -1,10 +1,13 @@
 //! Why a request is refused.
 ghost use Rattle.std.specs.Prelude.{◌≡◌};
+ghost use Rattle.request_text.specs.Fields.{thing_word};
 ghost use Rattle.request_text.specs.declared.refusal.ReadFault.TheVariants as fault;
 
-use crate::csv_fault::CsvWhat;
 use crate::lists::FieldText;
+use csv_changes::CsvWhat;
 use frac_core::FracFault;
+use plan_model::What;
+use plan_reader::Limit;
 use record_text::Name;
 /// There was no memory.
 pub use std::alloc::AllocError as Memory;
@@ -16,6 +19,18 @@ use thiserror::Error;
 pub enum Thing {
     /// A source.
     Source,
+    /// A plan.
+    Plan,
+}
+
+// The word for what a name names.
+pub(crate) fn thing_text(what: Thing) -> &'static str
+    ensures { result.now ≡ thing_word what }
+{
+    match what {
+        Thing::Source => "source",
+        Thing::Plan => "plan",
+    }
 }
 
 /// The first fault of a request. All places count from 0.
@@ -27,45 +42,93 @@ pub enum Refusal {
     /// The line is no JSON, or nests deeper than 127.
     #[error("the line is no JSON")]
     Json,
-    /// The field is missing, is not as it must be, or is one that the request doesn't have.
+    /// The field is missing, is not as it must be, or is one that the request doesn't have. Where a step is
+    /// told, it is a field of the request's plan, at that step.
     #[error("the field {0} is not as it must be", field.as_str())]
-    Shape { field: FieldText },
+    Shape {
+        field: FieldText,
+        step: Option<usize>,
+    },
+    /// The step of the request's plan has more than the limit.
+    #[error("the step {step} is over the limit {limit:?}")]
+    Over {
+        step: usize,
+        limit: Limit,
+    },
     /// The text at this place is no weight.
     #[error("the weight at {at} is refused: {fault}")]
-    Weight { at: usize, fault: FracFault },
+    Weight {
+        at: usize,
+        fault: FracFault,
+    },
     /// The text of this field is no name.
     #[error("the field {0} is no name", field.as_str())]
-    Name { field: FieldText },
+    Name {
+        field: FieldText,
+    },
     /// There is one of this name already.
     #[error("the name {0} is taken", name.as_str())]
-    Exists { what: Thing, name: Name },
+    Exists {
+        what: Thing,
+        name: Name,
+    },
     /// There is none of this name.
     #[error("there is no {0}", name.as_str())]
-    Unknown { what: Thing, name: Name },
+    Unknown {
+        what: Thing,
+        name: Name,
+    },
     /// There are as many as there may be.
     #[error("there is no room for another")]
-    Full { what: Thing },
+    Full {
+        what: Thing,
+    },
     /// Exact answers are the curator's alone.
     #[error("exact answers are not open")]
     Curator,
     /// The record is not as the source's columns ask.
     #[error("the record {at} is not as it must be")]
-    Csv { at: usize, what: CsvWhat },
+    Csv {
+        at: usize,
+        what: CsvWhat,
+    },
     /// The running weight of the record's row is out of range.
     #[error("the weight of record {at} is out of range")]
-    RecordRange { at: usize },
+    RecordRange {
+        at: usize,
+    },
     /// The record's row ends below 0, where no weight may be negative.
     #[error("the row of record {at} ends below 0")]
-    Negative { at: usize },
+    Negative {
+        at: usize,
+    },
+    /// The step keeps the plan from being accepted.
+    #[error("the step {step} is not accepted: {what:?}")]
+    Plan {
+        step: usize,
+        what: What,
+    },
     /// The row doesn't fit the columns.
     #[error("the row {at} doesn't fit")]
-    Row { at: usize },
+    Row {
+        at: usize,
+    },
     /// The row is one that came before.
     #[error("the row {at} came before")]
-    Repeat { at: usize },
+    Repeat {
+        at: usize,
+    },
     /// The running sum leaves the range of fractions at the weight of this place.
     #[error("the sum is out of range at {at}")]
-    SumRange { at: usize },
+    SumRange {
+        at: usize,
+    },
+    /// The step's output in this plan would leave the range of fractions.
+    #[error("the plan {0} is out of range at step {step}", plan.as_str())]
+    Range {
+        plan: Name,
+        step: usize,
+    },
 }
 
 /// Why no request was read.

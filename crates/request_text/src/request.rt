@@ -1,5 +1,10 @@
 //! What a line asks for.
+ghost use Rattle.std.specs.Prelude.{◌≡◌};
+ghost use Rattle.request_text.specs.Requests.{target_named};
+
 use crate::lists::{Bytes, Rows, Weights};
+use crate::refusal::Thing;
+use plan_model::Plan;
 use record_text::{Kinds, Name};
 
 /// What rows are looked up in.
@@ -7,6 +12,18 @@ use record_text::{Kinds, Name};
 pub enum Target {
     /// The source of this name.
     Source(Name),
+    /// The output of the plan of this name.
+    Plan(Name),
+}
+
+// The source or the plan of a name.
+pub(crate) fn target_of(of: Thing, name: Name) -> Target
+    ensures { result ≡ target_named of name }
+{
+    match of {
+        Thing::Source => Target::Source(name),
+        Thing::Plan => Target::Plan(name),
+    }
 }
 
 /// A request that was read.
@@ -30,6 +47,15 @@ pub enum Request {
         csv: Bytes,
         header: bool,
     },
+    /// A new plan.
+    Plan {
+        name: Name,
+        plan: Plan,
+    },
+    /// The plan of this name is to be taken out.
+    Drop {
+        plan: Name,
+    },
     /// The weights of 1 to 1,024 rows.
     Exact {
         of: Target,
@@ -43,5 +69,7 @@ pub(crate) enum Op {
     Sum,
     Source,
     Update,
+    Plan,
+    Drop,
     Exact,
 }

@@ -1,10 +1,12 @@
 //! Tests of requests and replies: that lines are read and written, and that the definitions say what is meant.
 
 use crate::{
-    CsvWhat, FieldText, MAX_LINE, Memory, ReadFault, Refusal, Reply, Request, Target, Thing,
+    CsvWhat, FieldText, MAX_LINE, Memory, ReadFault, Refusal, Reply, Request, Target, Thing, Uses,
     Weights, read_request, write_reply,
 };
 use frac_core::{Frac, FracFault};
+use plan_model::{Step, What};
+use plan_reader::Limit;
 use record_text::{Kind, Kinds, Name, row_to_json};
 use std::alloc::Global;
 use std::test::Fail;
@@ -130,13 +132,68 @@ fn reads_rows_to_look_up(rt: HostRuntime) -> Result<(), Fail> {
     let Request::Exact { of, rows } = read_request(rt.alloc(), line.as_bytes())? else {
         panic!(rt; "another request");
     };
-    let Target::Source(source) = of;
+    let Target::Source(source) = of else {
+        panic!(rt; "another target");
+    };
     assert_eq!(rt; source.as_str(), "p");
     assert_eq!(rt; rows.as_slice().len(), 2);
     for (row, text) in rows.as_slice().iter().zip([r#"["Smith, J",34]"#, "[7]"]) {
         let json = row_to_json(rt.alloc(), row)?.to_vec(rt.alloc())?;
         assert_eq!(rt; json.as_slice(), text.as_bytes());
     }
+    Ok(())
+}
+
+#[test]
+fn reads_rows_to_look_up_in_plans(rt: HostRuntime) -> Result<(), Fail> {
+    let line = r#"{"op":"exact","plan":"j","rows":[[1,1],[3,1],[2,4],[1,4]]}"#;
+    let Request::Exact { of, rows } = read_request(rt.alloc(), line.as_bytes())? else {
+        panic!(rt; "another request");
+    };
+    let Target::Plan(plan) = of else {
+        panic!(rt; "another target");
+    };
+    assert_eq!(rt; plan.as_str(), "j");
+    assert_eq!(rt; rows.as_slice().len(), 4);
+    Ok(())
+}
+
+#[test]
+fn reads_plans(rt: HostRuntime) -> Result<(), Fail> {
+    let rows = [
+        (
+            r#"{"op":"plan","name":"p1","plan":{"format":1,"steps":[{"do":"source","name":"a"}]}}"#,
+            "p1",
+            1,
+        ),
+        (
+            r#"{"plan":{"steps":[{"name":"a","do":"source"},{"do":"where","of":0,"if":{"col":0}},{"do":"select","of":1,"row":[{"text":"x"},{"call":"mod","args":[{"col":0},{"int":2}]}]}],"format":1},"name":"p_2","op":"plan"}"#,
+            "p_2",
+            3,
+        ),
+    ];
+    for (line, named, steps) in rows {
+        let request = read_request(rt.alloc(), line.as_bytes())?;
+        let Request::Plan { name, plan } = request else {
+            panic!(rt; "another request");
+        };
+        assert_eq!(rt; name.as_str(), named);
+        assert_eq!(rt; plan.len(), steps);
+        let Step::Source { name: source } = plan.step(0) else {
+            panic!(rt; "another step");
+        };
+        assert_eq!(rt; source.as_str(), "a");
+    }
+    Ok(())
+}
+
+#[test]
+fn reads_plans_to_take_out(rt: HostRuntime) -> Result<(), Fail> {
+    let line = r#"{"op":"drop","plan":"zz"}"#;
+    let Request::Drop { plan } = read_request(rt.alloc(), line.as_bytes())? else {
+        panic!(rt; "another request");
+    };
+    assert_eq!(rt; plan.as_str(), "zz");
     Ok(())
 }
 
@@ -148,6 +205,10 @@ fn refuses_the_first_fault(rt: HostRuntime) -> Result<(), Fail> {
         ("{}", r#"{"field":"op","ok":false,"why":"shape"}"#),
         (
             r#"{"op":"sun"}"#,
+            r#"{"field":"op","ok":false,"why":"shape"}"#,
+        ),
+        (
+            r#"{"op":"plans","name":"a"}"#,
             r#"{"field":"op","ok":false,"why":"shape"}"#,
         ),
         (
@@ -227,10 +288,6 @@ fn refuses_the_first_fault(rt: HostRuntime) -> Result<(), Fail> {
             r#"{"field":"plan","ok":false,"why":"shape"}"#,
         ),
         (
-            r#"{"op":"exact","plan":"p","rows":[[1]]}"#,
-            r#"{"field":"plan","ok":false,"why":"shape"}"#,
-        ),
-        (
             r#"{"op":"exact","plan":1,"source":"a","rows":[[1]]}"#,
             r#"{"field":"source","ok":false,"why":"shape"}"#,
         ),
@@ -250,10 +307,114 @@ fn refuses_the_first_fault(rt: HostRuntime) -> Result<(), Fail> {
             r#"{"op":"exact","source":"a-b","rows":[[1]]}"#,
             r#"{"field":"source","ok":false,"why":"name"}"#,
         ),
+        (
+            r#"{"op":"exact","plan":1,"source":2,"x":1}"#,
+            r#"{"field":"source","ok":false,"why":"shape"}"#,
+        ),
+        (
+            r#"{"op":"exact","plan":1,"rows":[]}"#,
+            r#"{"field":"plan","ok":false,"why":"shape"}"#,
+        ),
+        (
+            r#"{"op":"exact","plan":"a-b","rows":[],"x":1}"#,
+            r#"{"field":"rows","ok":false,"why":"shape"}"#,
+        ),
+        (
+            r#"{"op":"exact","plan":"a-b","rows":[[1]],"x":1}"#,
+            r#"{"field":"x","ok":false,"why":"shape"}"#,
+        ),
+        (
+            r#"{"op":"exact","plan":"a-b","rows":[[1]]}"#,
+            r#"{"field":"plan","ok":false,"why":"name"}"#,
+        ),
+        (
+            r#"{"op":"drop"}"#,
+            r#"{"field":"plan","ok":false,"why":"shape"}"#,
+        ),
+        (
+            r#"{"op":"drop","plan":"a-b","name":"a"}"#,
+            r#"{"field":"name","ok":false,"why":"shape"}"#,
+        ),
+        (
+            r#"{"op":"drop","plan":"a-b"}"#,
+            r#"{"field":"plan","ok":false,"why":"name"}"#,
+        ),
         // A text is escaped as JSON has it.
         (
             r#"{"op":"sum","weights":[],"\"\\\/\b\f\n\r\t\u0001Å\u00e5":1}"#,
             r#"{"field":"\"\\/\b\f\n\r\t\u0001Åå","ok":false,"why":"shape"}"#,
+        ),
+    ];
+    for (line, reply) in rows {
+        let answer = refusal_line(rt.alloc(), line.as_bytes())?;
+        let expected = format!(in rt.alloc(); "{reply}\n")?;
+        assert_eq!(rt; answer.as_slice(), expected.as_bytes(), "{line}");
+    }
+    Ok(())
+}
+
+#[test]
+fn refuses_the_first_fault_of_a_plan(rt: HostRuntime) -> Result<(), Fail> {
+    let rows = [
+        (
+            r#"{"op":"plan","plan":1}"#,
+            r#"{"field":"name","ok":false,"why":"shape"}"#,
+        ),
+        (
+            r#"{"op":"plan","name":"a-b","x":1}"#,
+            r#"{"field":"plan","ok":false,"why":"shape"}"#,
+        ),
+        (
+            r#"{"op":"plan","name":"p","plan":1}"#,
+            r#"{"field":"plan","ok":false,"step":0,"why":"shape"}"#,
+        ),
+        (
+            r#"{"op":"plan","name":"p","plan":{"format":2,"steps":[]}}"#,
+            r#"{"field":"format","ok":false,"step":0,"why":"shape"}"#,
+        ),
+        (
+            r#"{"op":"plan","name":"p","plan":{"format":1,"steps":[],"x":1}}"#,
+            r#"{"field":"steps","ok":false,"step":0,"why":"shape"}"#,
+        ),
+        (
+            r#"{"op":"plan","name":"p","plan":{"format":1,"steps":[1],"x":1}}"#,
+            r#"{"field":"other","ok":false,"step":0,"why":"shape"}"#,
+        ),
+        (
+            r#"{"op":"plan","name":"p","plan":{"format":1,"steps":[{"do":"source","name":"a"},1]}}"#,
+            r#"{"field":"step","ok":false,"step":1,"why":"shape"}"#,
+        ),
+        (
+            r#"{"op":"plan","name":"p","plan":{"format":1,"steps":[{"do":"sources","name":"a"}]}}"#,
+            r#"{"field":"do","ok":false,"step":0,"why":"shape"}"#,
+        ),
+        (
+            r#"{"op":"plan","name":"p","plan":{"format":1,"steps":[{"do":"source","name":"a-b"}]}}"#,
+            r#"{"field":"name","ok":false,"step":0,"why":"shape"}"#,
+        ),
+        (
+            r#"{"op":"plan","name":"p","plan":{"format":1,"steps":[{"do":"source","name":"a"},{"do":"where","of":1,"if":{"col":0}}]}}"#,
+            r#"{"field":"of","ok":false,"step":1,"why":"shape"}"#,
+        ),
+        (
+            r#"{"op":"plan","name":"p","plan":{"format":1,"steps":[{"do":"source","name":"a"},{"do":"where","of":0}]}}"#,
+            r#"{"field":"if","ok":false,"step":1,"why":"shape"}"#,
+        ),
+        (
+            r#"{"op":"plan","name":"a-b","plan":{"format":1,"steps":[{"do":"source","name":"a"},{"do":"select","of":0,"row":[]}]},"x":1}"#,
+            r#"{"field":"row","ok":false,"step":1,"why":"shape"}"#,
+        ),
+        (
+            r#"{"op":"plan","name":"p","plan":{"format":1,"steps":[{"do":"source","name":"a"},{"do":"select","of":0,"row":[1,1,1,1,1,1,1,1,1,1,1,1,1,1,1,1,1]}]}}"#,
+            r#"{"limit":"width","ok":false,"step":1,"why":"over"}"#,
+        ),
+        (
+            r#"{"op":"plan","name":"a-b","plan":{"format":1,"steps":[{"do":"source","name":"a"}]},"x":1}"#,
+            r#"{"field":"x","ok":false,"why":"shape"}"#,
+        ),
+        (
+            r#"{"op":"plan","name":"a-b","plan":{"format":1,"steps":[{"do":"source","name":"a"}]}}"#,
+            r#"{"field":"name","ok":false,"why":"name"}"#,
         ),
     ];
     for (line, reply) in rows {
@@ -308,6 +469,8 @@ fn field(alloc: Global, text: &str) -> Result<FieldText, Memory> {
 fn writes_each_answer(rt: HostRuntime) -> Result<(), Fail> {
     let looked_up = vec![in rt.alloc(); Frac::new(9, 19)?, Frac::zero(), Frac::new(-3, 2)?]?;
     let weights = Weights::from_vec(looked_up);
+    let a = Name::read(b"a").expect(&rt, "a name");
+    let b = Name::read(b"b").expect(&rt, "a name");
     let rows = [
         (Reply::Done, r#"{"ok":true}"#),
         (
@@ -317,6 +480,27 @@ fn writes_each_answer(rt: HostRuntime) -> Result<(), Fail> {
             r#"{"ok":true,"sum":"5/6"}"#,
         ),
         (Reply::Records { count: 3 }, r#"{"ok":true,"records":3}"#),
+        (
+            Reply::Planned {
+                cols: Kinds::from_slice(&[Kind::Int, Kind::Text]),
+                uses: Uses::from_vec(vec![in rt.alloc(); (a, 1)]?),
+            },
+            r#"{"cols":["int","text"],"ok":true,"uses":[["a",1]]}"#,
+        ),
+        (
+            Reply::Planned {
+                cols: Kinds::from_slice(&[Kind::Int, Kind::Int]),
+                uses: Uses::from_vec(vec![in rt.alloc(); (a, 1), (b, 1)]?),
+            },
+            r#"{"cols":["int","int"],"ok":true,"uses":[["a",1],["b",1]]}"#,
+        ),
+        (
+            Reply::Planned {
+                cols: Kinds::from_slice(&[Kind::Int]),
+                uses: Uses::from_vec(vec![in rt.alloc(); (a, 524_288)]?),
+            },
+            r#"{"cols":["int"],"ok":true,"uses":[["a",524288]]}"#,
+        ),
         (
             Reply::Weights { weights },
             r#"{"ok":true,"weights":["9/19","0","-3/2"]}"#,
@@ -340,7 +524,10 @@ fn writes_each_answer(rt: HostRuntime) -> Result<(), Fail> {
 fn writes_each_refusal(rt: HostRuntime) -> Result<(), Fail> {
     let rows_field = field(rt.alloc(), "rows")?;
     assert_eq!(rt; rows_field.as_slice(), b"rows".as_slice());
-    let shape = Refusal::Shape { field: rows_field };
+    let shape = Refusal::Shape {
+        field: rows_field,
+        step: None,
+    };
     let no_name = Refusal::Name {
         field: field(rt.alloc(), "source")?,
     };
@@ -438,6 +625,76 @@ fn writes_each_refusal(rt: HostRuntime) -> Result<(), Fail> {
     for (refusal, text) in rows {
         let line = reply_line(rt.alloc(), &Reply::Refused(refusal))?;
         let expected = format!(in rt.alloc(); "{text}\n")?;
+        assert_eq!(rt; line.as_slice(), expected.as_bytes());
+    }
+    Ok(())
+}
+
+#[test]
+fn writes_each_refusal_of_plans(rt: HostRuntime) -> Result<(), Fail> {
+    let row = Refusal::Shape {
+        field: field(rt.alloc(), "row")?,
+        step: Some(1),
+    };
+    let what = Thing::Plan;
+    let name = Name::read(b"p2").expect(&rt, "a name");
+    let rows = [
+        (row, r#"{"field":"row","ok":false,"step":1,"why":"shape"}"#),
+        (
+            Refusal::Exists { what, name },
+            r#"{"name":"p2","ok":false,"what":"plan","why":"exists"}"#,
+        ),
+        (
+            Refusal::Unknown { what, name },
+            r#"{"name":"p2","ok":false,"what":"plan","why":"unknown"}"#,
+        ),
+        (
+            Refusal::Full { what },
+            r#"{"ok":false,"what":"plan","why":"full"}"#,
+        ),
+        (
+            Refusal::Range {
+                plan: name,
+                step: 1,
+            },
+            r#"{"ok":false,"plan":"p2","step":1,"why":"range"}"#,
+        ),
+    ];
+    for (refusal, text) in rows {
+        let line = reply_line(rt.alloc(), &Reply::Refused(refusal))?;
+        let expected = format!(in rt.alloc(); "{text}\n")?;
+        assert_eq!(rt; line.as_slice(), expected.as_bytes());
+    }
+    let limits = [
+        (Limit::Steps, "steps"),
+        (Limit::Width, "width"),
+        (Limit::Depth, "depth"),
+        (Limit::Nodes, "nodes"),
+        (Limit::Items, "items"),
+        (Limit::Pieces, "pieces"),
+    ];
+    for (limit, word) in limits {
+        let over = Reply::Refused(Refusal::Over { step: 1, limit });
+        let line = reply_line(rt.alloc(), &over)?;
+        let expected = format!(in rt.alloc();
+            "{{\"limit\":\"{word}\",\"ok\":false,\"step\":1,\"why\":\"over\"}}\n"
+        )?;
+        assert_eq!(rt; line.as_slice(), expected.as_bytes());
+    }
+    let causes = [
+        (What::UnknownSource, "unknown_source"),
+        (What::Column, "column"),
+        (What::Kind, "kind"),
+        (What::TooWide, "too_wide"),
+        (What::Negative, "negative"),
+        (What::UsesOver, "uses_over"),
+    ];
+    for (what, word) in causes {
+        let plan = Reply::Refused(Refusal::Plan { step: 20, what });
+        let line = reply_line(rt.alloc(), &plan)?;
+        let expected = format!(in rt.alloc();
+            "{{\"ok\":false,\"step\":20,\"what\":\"{word}\",\"why\":\"plan\"}}\n"
+        )?;
         assert_eq!(rt; line.as_slice(), expected.as_bytes());
     }
     Ok(())

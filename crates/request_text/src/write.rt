@@ -1,15 +1,15 @@
 //! From a reply to its line.
-ghost use Rattle.std.specs.Prelude.{◌≡◌, ◌∷◌, [], ◌++◌, IfOk, OnOk, OnErr, codes, string_bytes, false};
+ghost use Rattle.std.specs.Prelude.{◌≡◌, [], ◌++◌, IfOk, OnOk, OnErr, string_bytes, false};
 ghost use Rattle.frac_core.specs.Text.{ratio_text};
-ghost use Rattle.serde_json.specs.Data.{object};
 ghost use Rattle.serde_json.specs.View.{view};
 ghost use Rattle.serde_json.specs.Written.{has_float};
-ghost use Rattle.request_text.specs.Replies.{refused_for, field_data, record_data, row_fault_data, sum_data, weights_data, looked_up_data, weight_fault_data, name_data, full_data, csv_data, fault_word, thing_word, csv_word, refusal_data, reply_data, reply_line};
+ghost use Rattle.request_text.specs.Replies.{kind_word, kind_data, use_data, list_data, sum_data, planned_data, weight_data, looked_up_data, reply_data, reply_line};
 
-use crate::csv_fault::CsvWhat;
-use crate::lists::Weights;
-use crate::refusal::{Memory, Refusal, Thing};
-use frac_core::{Frac, FracFault};
+use crate::lists::{Uses, Weights};
+use crate::refusal::{Memory, Refusal};
+use crate::refused::refusal_value;
+use frac_core::Frac;
+use record_text::{Kind, Kinds, Name};
 use serde_json::{Value, json};
 use std::alloc::Global;
 
@@ -22,6 +22,9 @@ pub enum Reply {
     SumOf { sum: Frac },
     /// So many records were added; the header isn't counted.
     Records { count: u64 },
+    /// The plan is accepted, with these columns. The sources that it uses, in order of declaration, stand with
+    /// the number of their uses.
+    Planned { cols: Kinds, uses: Uses },
     /// The weights of the rows that were looked up, in their order.
     Weights { weights: Weights },
     /// The request is refused.
@@ -48,6 +51,7 @@ fn reply_value(alloc: Global, reply: &Reply) -> Result<Value, Memory>
         Reply::Done => json!(in alloc; {"ok": true}),
         Reply::SumOf { sum } => sum_value(alloc, *sum),
         Reply::Records { count } => json!(in alloc; {"ok": true, "records": (*count)}),
+        Reply::Planned { cols, uses } => planned_value(alloc, *cols, uses.as_slice()),
         Reply::Weights { weights } => looked_up_value(alloc, weights.as_slice()),
         Reply::Refused(refusal) => refusal_value(alloc, refusal),
     }
@@ -61,6 +65,62 @@ fn sum_value(alloc: Global, sum: Frac) -> Result<Value, Memory>
     json!(in alloc; {"ok": true, "sum": text})
 }
 
+fn planned_value(alloc: Global, cols: Kinds, uses: &[(Name, u64)]) -> Result<Value, Memory>
+    ensures value { IfOk result (λ v. view v ≡ planned_data cols uses.now) }
+    ensures no_float { IfOk result (λ v. has_float (view v) ≡ false) }
+{
+    let cols = kinds_value(alloc, cols)?;
+    let uses = uses_value(alloc, uses)?;
+    json!(in alloc; {"cols": cols, "ok": true, "uses": uses})
+}
+
+fn kinds_value(alloc: Global, kinds: Kinds) -> Result<Value, Memory>
+    ensures value { IfOk result (λ v. view v ≡ list_data kind_data kinds) }
+    ensures no_float { IfOk result (λ v. has_float (view v) ≡ false) }
+{
+    let mut list = Vec::with_capacity(alloc, kinds.len())?;
+    for column in 0..kinds.len() {
+        let value = kind_value(alloc, kinds.at(column))?;
+        list.push(value)?;
+    }
+    Ok(Value::Array(list))
+}
+
+fn kind_value(alloc: Global, kind: Kind) -> Result<Value, Memory>
+    ensures { IfOk result (λ v. view v ≡ kind_data kind) }
+{
+    let text = String::from_str(alloc, kind_text(kind))?;
+    Ok(Value::String(text))
+}
+
+fn kind_text(kind: Kind) -> &'static str
+    ensures { result.now ≡ kind_word kind }
+{
+    match kind {
+        Kind::Int => "int",
+        Kind::Text => "text",
+    }
+}
+
+fn uses_value(alloc: Global, uses: &[(Name, u64)]) -> Result<Value, Memory>
+    ensures value { IfOk result (λ v. view v ≡ list_data use_data uses.now) }
+    ensures no_float { IfOk result (λ v. has_float (view v) ≡ false) }
+{
+    let mut list = Vec::with_capacity(alloc, uses.len())?;
+    for source in uses {
+        let value = use_value(alloc, source.0, source.1)?;
+        list.push(value)?;
+    }
+    Ok(Value::Array(list))
+}
+
+fn use_value(alloc: Global, source: Name, uses: u64) -> Result<Value, Memory>
+    ensures value { IfOk result (λ v. view v ≡ use_data (source, uses)) }
+    ensures no_float { IfOk result (λ v. has_float (view v) ≡ false) }
+{
+    json!(in alloc; [(source.as_str()), uses])
+}
+
 fn looked_up_value(alloc: Global, weights: &[Frac]) -> Result<Value, Memory>
     ensures value { IfOk result (λ v. view v ≡ looked_up_data weights.now) }
     ensures no_float { IfOk result (λ v. has_float (view v) ≡ false) }
@@ -70,7 +130,7 @@ fn looked_up_value(alloc: Global, weights: &[Frac]) -> Result<Value, Memory>
 }
 
 fn weights_value(alloc: Global, weights: &[Frac]) -> Result<Value, Memory>
-    ensures value { IfOk result (λ v. view v ≡ weights_data weights.now) }
+    ensures value { IfOk result (λ v. view v ≡ list_data weight_data weights.now) }
     ensures no_float { IfOk result (λ v. has_float (view v) ≡ false) }
 {
     let mut list = Vec::with_capacity(alloc, weights.len())?;
@@ -79,114 +139,6 @@ fn weights_value(alloc: Global, weights: &[Frac]) -> Result<Value, Memory>
         list.push(Value::String(text))?;
     }
     Ok(Value::Array(list))
-}
-
-fn refusal_value(alloc: Global, refusal: &Refusal) -> Result<Value, Memory>
-    ensures value { IfOk result (λ v. view v ≡ refusal_data refusal.now) }
-    ensures no_float { IfOk result (λ v. has_float (view v) ≡ false) }
-{
-    match refusal {
-        Refusal::Line => plain_value(alloc, "line"),
-        Refusal::Json => plain_value(alloc, "json"),
-        Refusal::Shape { field } => field_value(alloc, field.as_str(), "shape"),
-        Refusal::Weight { at, fault } => weight_fault_value(alloc, *at, *fault),
-        Refusal::Name { field } => field_value(alloc, field.as_str(), "name"),
-        Refusal::Exists { what, name } => name_value(alloc, *what, name.as_str(), "exists"),
-        Refusal::Unknown { what, name } => name_value(alloc, *what, name.as_str(), "unknown"),
-        Refusal::Full { what } => full_value(alloc, *what),
-        Refusal::Curator => plain_value(alloc, "curator"),
-        Refusal::Csv { at, what } => csv_value(alloc, *at, *what),
-        Refusal::RecordRange { at } => record_value(alloc, *at, "record_range"),
-        Refusal::Negative { at } => record_value(alloc, *at, "negative"),
-        Refusal::Row { at } => row_fault_value(alloc, *at, "row"),
-        Refusal::Repeat { at } => row_fault_value(alloc, *at, "repeat"),
-        Refusal::SumRange { at } => json!(in alloc; {"at": (*at), "ok": false, "why": "range"}),
-    }
-}
-
-fn plain_value(alloc: Global, why: &str) -> Result<Value, Memory>
-    ensures value { IfOk result (λ v. view v ≡ object (refused_for why.now)) }
-    ensures no_float { IfOk result (λ v. has_float (view v) ≡ false) }
-{
-    json!(in alloc; {"ok": false, "why": why})
-}
-
-fn field_value(alloc: Global, field: &str, why: &str) -> Result<Value, Memory>
-    ensures value { IfOk result (λ v. view v ≡ field_data field.now why.now) }
-    ensures no_float { IfOk result (λ v. has_float (view v) ≡ false) }
-{
-    json!(in alloc; {"field": field, "ok": false, "why": why})
-}
-
-fn weight_fault_value(alloc: Global, at: usize, fault: FracFault) -> Result<Value, Memory>
-    ensures value { IfOk result (λ v. view v ≡ weight_fault_data at fault) }
-    ensures no_float { IfOk result (λ v. has_float (view v) ≡ false) }
-{
-    json!(in alloc; {"at": at, "ok": false, "text": (fault_text(fault)), "why": "weight"})
-}
-
-fn name_value(alloc: Global, what: Thing, name: &str, why: &str) -> Result<Value, Memory>
-    ensures value { IfOk result (λ v. view v ≡ name_data what name.now why.now) }
-    ensures no_float { IfOk result (λ v. has_float (view v) ≡ false) }
-{
-    json!(in alloc; {"name": name, "ok": false, "what": (thing_text(what)), "why": why})
-}
-
-fn full_value(alloc: Global, what: Thing) -> Result<Value, Memory>
-    ensures value { IfOk result (λ v. view v ≡ full_data what) }
-    ensures no_float { IfOk result (λ v. has_float (view v) ≡ false) }
-{
-    json!(in alloc; {"ok": false, "what": (thing_text(what)), "why": "full"})
-}
-
-fn csv_value(alloc: Global, at: usize, what: CsvWhat) -> Result<Value, Memory>
-    ensures value { IfOk result (λ v. view v ≡ csv_data at what) }
-    ensures no_float { IfOk result (λ v. has_float (view v) ≡ false) }
-{
-    json!(in alloc; {"ok": false, "record": at, "what": (csv_text(what)), "why": "csv"})
-}
-
-fn record_value(alloc: Global, at: usize, why: &str) -> Result<Value, Memory>
-    ensures value { IfOk result (λ v. view v ≡ record_data at why.now) }
-    ensures no_float { IfOk result (λ v. has_float (view v) ≡ false) }
-{
-    json!(in alloc; {"ok": false, "record": at, "why": why})
-}
-
-fn row_fault_value(alloc: Global, at: usize, why: &str) -> Result<Value, Memory>
-    ensures value { IfOk result (λ v. view v ≡ row_fault_data at why.now) }
-    ensures no_float { IfOk result (λ v. has_float (view v) ≡ false) }
-{
-    json!(in alloc; {"ok": false, "row": at, "why": why})
-}
-
-fn fault_text(fault: FracFault) -> &'static str
-    ensures { result.now ≡ fault_word fault }
-{
-    match fault {
-        FracFault::BadText => "bad",
-        FracFault::ZeroDenominator => "zero",
-        FracFault::OutOfRange => "range",
-    }
-}
-
-fn thing_text(what: Thing) -> &'static str
-    ensures { result.now ≡ thing_word what }
-{
-    match what {
-        Thing::Source => "source",
-    }
-}
-
-fn csv_text(what: CsvWhat) -> &'static str
-    ensures { result.now ≡ csv_word what }
-{
-    match what {
-        CsvWhat::Width => "width",
-        CsvWhat::Int => "int",
-        CsvWhat::Text => "text",
-        CsvWhat::Weight => "weight",
-    }
 }
 
 fn weight_text(alloc: Global, weight: Frac) -> Result<String, Memory>

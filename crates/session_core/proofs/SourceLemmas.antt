@@ -1,6 +1,6 @@
 -- Sources stay sound.
-use Rattle.std.proofs.Common.{◌≡◌, ◌≢◌, ◌≤◌, ℕ, true, false, Bool, List, [], ◌∷◌, refl, sym, ap, ap₂, ◌∙◌, subst, arith, inl, inr}
-use Rattle.std.specs.Prelude.{All, None, cond, length, ◌⊎◌}
+use Rattle.std.proofs.Common.{◌≡◌, ◌≢◌, ◌≤◌, ℕ, true, Bool, List, [], ◌∷◌, sym, subst, arith, inl, inr}
+use Rattle.std.specs.Prelude.{All, None, ◌⊎◌}
 use Rattle.std.proofs.lemmas.List.Elements.{All-head, All-tail}
 use Rattle.std.proofs.lemmas.Int.{ints}
 use Rattle.ratios.specs.Ratio.{RatioLe, zero_ratio}
@@ -12,17 +12,13 @@ use Rattle.datasets.specs.Entries.{Row, Entries}
 use Rattle.datasets.specs.Dataset.{Dataset, at, add_at, with_added, first_weight_out_of_range, first_negative}
 use Rattle.datasets.proofs.Weights.{at-empty}
 use Rattle.datasets.proofs.Added.{EachAdded, with_added-keeps, with_added-in_range, with_added-nonnegative}
-use Rattle.weighted_set.specs.Adding.{StaysInRange, EndsAllowed, AreChangesOfAdding}
-use Rattle.weighted_set.specs.Changes.{applied, entries_of}
-use Rattle.weighted_set.specs.declared.weighted.Change.{Change}
+use Rattle.weighted_set.specs.Changes.{entries_of}
 use Rattle.weighted_set.specs.declared.weighted.Weighted.{Weighted}
-use Rattle.weighted_set.proofs.ChangeLists.{change_list_leads_there}
-use Rattle.request_text.specs.declared.write.Reply.TheVariants as reply
-use Rattle.session_core.specs.Machine.{below_zero, updated_at, updated_source}
+use Rattle.session_core.specs.Machine.{with_weights}
 use Rattle.session_core.specs.State.{SourceState, new_source}
 use Rattle.session_core.specs.Sound.{IsSoundSource}
 
-zero_in_range : InRange zero_ratio
+pub zero_in_range : InRange zero_ratio
 unfolding zero_ratio
 zero_in_range = InRange-from_bounds zero_ratio (omega arith) (omega arith)
 
@@ -62,7 +58,7 @@ pub updated_is_sound : (source : SourceState) (added : List Weighted) → IsSoun
     → All (λ (one : Weighted). kinds_of one.row ≡ source.kinds) added
     → first_weight_out_of_range source.rows (entries_of added) ≡ None
     → (source.signed ≡ true) ⊎ (first_negative source.rows (entries_of added) ≡ None)
-    → IsSoundSource (record source { rows = with_added source.rows (entries_of added) })
+    → IsSoundSource (with_weights source added)
 updated_is_sound source added sound kinds within allowed =
     let es = entries_of added in
     record {
@@ -74,21 +70,3 @@ updated_is_sound source added sound kinds within allowed =
       spent_within = sound.spent_within;
       total_within = sound.total_within;
     }
-
--- ---- what adding weights does
--- once the changes are made, the weights are added
-pub added_by_changes : (A : Dataset) (added : List Weighted) (signed : Bool) (changes given : List Change) (new : Dataset)
-    → AreChangesOfAdding A added signed changes → given ≡ changes → new ≡ applied A given → new ≡ with_added A (entries_of added)
-added_by_changes A added signed changes given new adding same made =
-    made ∙ ap (applied A) same ∙ (change_list_leads_there changes A (with_added A (entries_of added)) adding.lead_there).1
-
-none_below_zero : (source : SourceState) (added : List Weighted) → EndsAllowed source.rows added source.signed → below_zero source added ≡ None
-none_below_zero source added (inl free) = ap (λ b. cond b None (first_negative source.rows (entries_of added))) free
-none_below_zero source added (inr none) =
-    elim source.signed as (λ b. cond b None (first_negative source.rows (entries_of added)) ≡ None) [ true ↦ refl | false ↦ none ]
-
--- weights that can be added are added
-pub updated_if_allowed : (source : SourceState) (added : List Weighted) → StaysInRange source.rows added → EndsAllowed source.rows added source.signed
-    → updated_source source added ≡ (record source { rows = with_added source.rows (entries_of added) }, reply.Records (length added))
-unfolding updated_source
-updated_if_allowed source added within allowed = ap₂ (λ out below. updated_at out below source added) within (none_below_zero source added allowed)

@@ -1,5 +1,6 @@
 -- The request machine, one line at a time.
-use Rattle.std.specs.Prelude.{◌≡◌, ◌⊎◌, ℕ, ℤ, ◌+◌, Bool, true, false, not, nat_le, List, [], ◌∷◌, ◌++◌, length, map, find, codes, if◌then◌else◌, Option, None, Some, Result, Ok, Err, MatchResult}
+use Rattle.std.specs.Prelude.{◌≡◌, ◌⊎◌, ℕ, ℤ, ◌+◌, Bool, true, false, not, nat_le, nat_lt, List, [], ◌∷◌, ◌++◌, length, map, filter, zip, slice_set, codes, if◌then◌else◌, Option, None, Some, Result, Ok, Err, MatchResult}
+use Rattle.std.specs.List.{range_with_len, remove}
 use Rattle.std.specs.Option.{option_map_or}
 use Rattle.std.specs.declared.alloc.AllocError.{AllocError}
 use Rattle.ratios.specs.Ratio.{Ratio}
@@ -7,24 +8,32 @@ use Rattle.ratios.specs.Sums.{ratio_sum, first_out_of_range}
 use Rattle.io_edge.specs.Known.{Gains}
 use Rattle.line_runs.specs.Runs.{Answering}
 use Rattle.record_text.specs.KindLists.{kinds_of, kinds_eq}
-use Rattle.record_text.specs.Names.{name_eq}
 use Rattle.record_text.specs.declared.kinds.Kind.{Kind}
 use Rattle.datasets.specs.Entries.{Row, has_row}
-use Rattle.datasets.specs.Dataset.{at, with_added, first_weight_out_of_range, first_negative}
+use Rattle.datasets.specs.Dataset.{Dataset, at, with_added, first_weight_out_of_range, first_negative}
+use Rattle.plan_model.specs.Acceptance.{Fault, plan_fault_of}
+use Rattle.plan_model.specs.Evaluation.{Family, eval, last_or}
+use Rattle.plan_model.specs.Fits.{misfit}
+use Rattle.plan_model.specs.Types.{columns}
+use Rattle.plan_model.specs.Uses.{uses}
+use Rattle.plan_model.specs.declared.source_types.SourceType.{SourceType}
+use Rattle.plan_model.specs.declared.step.Step.{Step}
 use Rattle.weighted_set.specs.Changes.{entries_of}
 use Rattle.weighted_set.specs.declared.weighted.Weighted.{Weighted}
 use Rattle.request_text.specs.Requests.{request_on}
 use Rattle.request_text.specs.Replies.{reply_line}
-use Rattle.request_text.specs.Changes.{BadRecord, changes_of}
+use Rattle.csv_changes.specs.Changes.{BadRecord, changes_of}
 use Rattle.request_text.specs.declared.refusal.Refusal.{Refusal}
 use Rattle.request_text.specs.declared.refusal.Refusal.TheVariants as refusal
 use Rattle.request_text.specs.declared.refusal.Thing.TheVariants as thing
 use Rattle.request_text.specs.declared.request.Request.{Request}
 use Rattle.request_text.specs.declared.request.Request.TheVariants as request
+use Rattle.request_text.specs.declared.request.Target.{Target}
 use Rattle.request_text.specs.declared.request.Target.TheVariants as target
 use Rattle.request_text.specs.declared.write.Reply.{Reply}
 use Rattle.request_text.specs.declared.write.Reply.TheVariants as reply
-use Rattle.session_core.specs.State.{SourceState, State, new_source}
+use Rattle.session_core.specs.Named.{first_named, index_named, plan_name, source_name}
+use Rattle.session_core.specs.State.{PlanState, SourceState, State, family_of, new_plan, new_source, types_of}
 
 -- ---- sum
 
@@ -33,17 +42,7 @@ abbrev pub sum_reply : List Ratio → Reply
 sum_reply weights =
     option_map_or (λ at. reply.Refused (refusal.SumRange at)) (first_out_of_range weights) (reply.SumOf (ratio_sum weights))
 
--- ---- sources, by name
-
--- the source of this name
-abbrev pub source_named : List ℕ → List SourceState → Option SourceState
-source_named name sources = find (λ source. name_eq name source.name) sources
-
--- the sources with `new` in the place of the one of this name
-abbrev pub with_source : List ℕ → SourceState → List SourceState → List SourceState
-with_source name new [] = []
-with_source name new (source ∷ sources) =
-    if name_eq name source.name then new ∷ sources else source ∷ with_source name new sources
+-- ---- declarations of sources
 
 -- the state and the reply after a declaration: a name that is taken, then a source too many, are refused
 abbrev declared_of : Option SourceState → State → SourceState → State × Reply
@@ -53,40 +52,99 @@ declared_of None state new =
     else (record state { sources = state.sources ++ new ∷ [] }, reply.Done)
 
 unfoldable pub declared : State → SourceState → State × Reply
-declared state new = declared_of (source_named new.name state.sources) state new
+declared state new = declared_of (first_named source_name new.name state.sources) state new
+
+-- ---- declarations of plans
+
+-- the sources that a plan uses, in the order of their declaration, each with how often
+abbrev pub uses_named : List (List ℕ) → List ℕ → List (List ℕ × ℕ)
+uses_named names counts = filter (λ used. nat_lt 0 used.1) (zip names counts)
+
+-- how often a plan uses each source
+abbrev pub counts_of : List SourceState → List Step → List ℕ
+counts_of sources plan = map (uses plan (types_of sources)) (range_with_len 0 (length (types_of sources)))
+
+-- the columns of a plan, those of its last step
+abbrev pub columns_of : List SourceState → List Step → List Kind
+columns_of sources plan = last_or [] (columns plan (types_of sources))
+
+-- of the first fault of a plan, and of the first step that doesn't fit the sources
+abbrev pub planned_at : Option Fault → Option ℕ → State → PlanState → State × Reply
+planned_at (Some fault) out state new = (state, reply.Refused (refusal.Plan fault.step fault.what))
+planned_at None (Some step) state new = (state, reply.Refused (refusal.Range new.name step))
+planned_at None None state new =
+    (record state { plans = state.plans ++ new ∷ [] }, reply.Planned (columns_of state.sources new.plan) (uses_named (map source_name state.sources) (counts_of state.sources new.plan)))
+
+-- the step of a plan that doesn't fit the sources, the first
+abbrev pub misfit_on : List SourceState → List Step → Option ℕ
+misfit_on sources plan = misfit plan (types_of sources) (family_of sources)
+
+-- the state and the reply after a plan is declared: a name that is taken, then a plan too many, are refused first
+abbrev planned_of : Option PlanState → State → PlanState → State × Reply
+planned_of (Some other) state new = (state, reply.Refused (refusal.Exists thing.Plan new.name))
+planned_of None state new =
+    if nat_le 32 (length state.plans) then (state, reply.Refused (refusal.Full thing.Plan))
+    else planned_at (plan_fault_of new.plan (types_of state.sources)) (misfit_on state.sources new.plan) state new
+
+unfoldable pub planned : State → PlanState → State × Reply
+planned state new = planned_of (first_named plan_name new.name state.plans) state new
+
+-- the plan of this name is taken out, and the others keep their order
+abbrev dropped_of : Option PlanState → State → List ℕ → State × Reply
+dropped_of None state name = (state, reply.Refused (refusal.Unknown thing.Plan name))
+dropped_of (Some plan) state name = (record state { plans = remove state.plans (index_named plan_name name state.plans) }, reply.Done)
+
+unfoldable pub dropped : State → List ℕ → State × Reply
+dropped state name = dropped_of (first_named plan_name name state.plans) state name
 
 -- ---- updates
 
--- what adding weights to a source answers, where these places are out of range and end below 0
-abbrev pub updated_at : Option ℕ → Option ℕ → SourceState → List Weighted → SourceState × Reply
-updated_at (Some out) below source added = (source, reply.Refused (refusal.RecordRange out))
-updated_at None (Some below) source added = (source, reply.Refused (refusal.Negative below))
-updated_at None None source added =
-    (record source { rows = with_added source.rows (entries_of added) }, reply.Records (length added))
+-- a refusal of this plan's step, or else the other
+abbrev pub range_or : List ℕ → Option ℕ → Option Refusal → Option Refusal
+range_or name (Some step) other = Some (refusal.Range name step)
+range_or name None other = other
+
+-- the first plan that doesn't fit a family, with the first step that doesn't
+abbrev pub first_misfit : List SourceType → Family → List PlanState → Option Refusal
+first_misfit types F [] = None
+first_misfit types F (plan ∷ plans) = range_or plan.name (misfit plan.plan types F) (first_misfit types F plans)
+
+-- what adding weights answers, where these places are out of range and end below 0, and this plan doesn't fit
+abbrev pub updated_at : Option ℕ → Option ℕ → Option Refusal → State → State → ℕ → State × Reply
+updated_at (Some out) below unfit state new count = (state, reply.Refused (refusal.RecordRange out))
+updated_at None (Some below) unfit state new count = (state, reply.Refused (refusal.Negative below))
+updated_at None None (Some why) state new count = (state, reply.Refused why)
+updated_at None None None state new count = (new, reply.Records count)
 
 -- the first place whose row ends below 0, where that is not allowed
 abbrev pub below_zero : SourceState → List Weighted → Option ℕ
 below_zero source added = if source.signed then None else first_negative source.rows (entries_of added)
 
--- the source and the reply after weights are added to it
-unfoldable pub updated_source : SourceState → List Weighted → SourceState × Reply
-updated_source source added =
-    updated_at (first_weight_out_of_range source.rows (entries_of added)) (below_zero source added) source added
+-- the source with weights added
+abbrev pub with_weights : SourceState → List Weighted → SourceState
+with_weights source added = record source { rows = with_added source.rows (entries_of added) }
 
-abbrev pub put_source : State → List ℕ → SourceState × Reply → State × Reply
-put_source state name outcome = (record state { sources = with_source name outcome.0 state.sources }, outcome.1)
+-- the state with this source at a place
+abbrev pub with_source : State → ℕ → SourceState → State
+with_source state at source = record state { sources = slice_set state.sources at source }
+
+-- the state and the reply after weights are added to the source at a place
+unfoldable pub added_at : State → ℕ → SourceState → List Weighted → State × Reply
+added_at state at source added =
+    let new = with_source state at (with_weights source added) in
+    updated_at (first_weight_out_of_range source.rows (entries_of added)) (below_zero source added) (first_misfit (types_of new.sources) (family_of new.sources) state.plans) state new (length added)
 
 -- of the changes that a CSV text denotes, or the record that is none
-abbrev pub updated_by : State → List ℕ → SourceState → Result (List Weighted) BadRecord → State × Reply
-updated_by state name source (Err bad) = (state, reply.Refused (refusal.Csv bad.at bad.what))
-updated_by state name source (Ok added) = put_source state name (updated_source source added)
+abbrev pub updated_by : State → ℕ → SourceState → Result (List Weighted) BadRecord → State × Reply
+updated_by state at source (Err bad) = (state, reply.Refused (refusal.Csv bad.at bad.what))
+updated_by state at source (Ok added) = added_at state at source added
 
 abbrev updated_of : Option SourceState → State → List ℕ → List ℕ → Bool → State × Reply
 updated_of None state name csv header = (state, reply.Refused (refusal.Unknown thing.Source name))
-updated_of (Some source) state name csv header = updated_by state name source (changes_of csv source.kinds header)
+updated_of (Some source) state name csv header = updated_by state (index_named source_name name state.sources) source (changes_of csv source.kinds header)
 
 unfoldable pub updated : State → List ℕ → List ℕ → Bool → State × Reply
-updated state name csv header = updated_of (source_named name state.sources) state name csv header
+updated state name csv header = updated_of (first_named source_name name state.sources) state name csv header
 
 -- ---- exact weights
 
@@ -98,18 +156,24 @@ first_row_fault kinds before at (row ∷ rows) =
     else if has_row before row then Some (refusal.Repeat at)
     else first_row_fault kinds (before ++ row ∷ []) (at + 1) rows
 
--- the weights of the rows, or the first row that can't be looked up
-abbrev pub looked_up : SourceState → List Row → Reply
-looked_up source rows =
-    option_map_or (λ why. reply.Refused why) (first_row_fault source.kinds [] 0 rows) (reply.Weights (map (at source.rows) rows))
+-- the weights of the rows in a dataset of these columns, or the first row that can't be looked up; without the curator none is told
+abbrev pub looked_up : Bool → List Kind → Dataset → List Row → Reply
+looked_up false kinds A rows = reply.Refused refusal.Curator
+looked_up true kinds A rows =
+    option_map_or (λ why. reply.Refused why) (first_row_fault kinds [] 0 rows) (reply.Weights (map (at A) rows))
 
-abbrev exact_of : Option SourceState → Bool → List ℕ → List Row → Reply
-exact_of None curator name rows = reply.Refused (refusal.Unknown thing.Source name)
-exact_of (Some source) false name rows = reply.Refused refusal.Curator
-exact_of (Some source) true name rows = looked_up source rows
+abbrev exact_in_source : Option SourceState → Bool → List ℕ → List Row → Reply
+exact_in_source None curator name rows = reply.Refused (refusal.Unknown thing.Source name)
+exact_in_source (Some source) curator name rows = looked_up curator source.kinds source.rows rows
 
-unfoldable pub exact_reply : State → List ℕ → List Row → Reply
-exact_reply state name rows = exact_of (source_named name state.sources) state.curator name rows
+abbrev exact_in_plan : Option PlanState → State → List ℕ → List Row → Reply
+exact_in_plan None state name rows = reply.Refused (refusal.Unknown thing.Plan name)
+exact_in_plan (Some plan) state name rows =
+    looked_up state.curator (columns_of state.sources plan.plan) (eval plan.plan (types_of state.sources) (family_of state.sources)) rows
+
+unfoldable pub exact_reply : State → Target → List Row → Reply
+exact_reply state (target.Source name) rows = exact_in_source (first_named source_name name state.sources) state.curator name rows
+exact_reply state (target.Plan name) rows = exact_in_plan (first_named plan_name name state.plans) state name rows
 
 -- ---- one step
 
@@ -118,7 +182,9 @@ abbrev pub performed : State → Request → State × Reply
 performed state (request.Sum weights) = (state, sum_reply weights)
 performed state (request.Source name kinds signed budget) = declared state (new_source name kinds signed budget)
 performed state (request.Update name csv header) = updated state name csv header
-performed state (request.Exact (target.Source name) rows) = (state, exact_reply state name rows)
+performed state (request.Plan name plan) = planned state (new_plan name plan)
+performed state (request.Drop name) = dropped state name
+performed state (request.Exact of rows) = (state, exact_reply state of rows)
 
 abbrev pub answered : State → Result Request Refusal → State × Reply
 answered state (Err why) = (state, reply.Refused why)

@@ -1,5 +1,5 @@
 -- What holds of every state.
-use Rattle.std.specs.Prelude.{◌≡◌, ◌≢◌, ◌≤◌, ◌⊎◌, Bool, true, All, List, length, map}
+use Rattle.std.specs.Prelude.{◌≡◌, ◌≢◌, ◌≤◌, ◌⊎◌, Bool, true, All, IsTrue, List, None, length, map}
 use Rattle.std.specs.List.{IsDistinct}
 use Rattle.ratios.specs.Ratio.{RatioLe, zero_ratio}
 use Rattle.ratios.specs.Range.{InRange}
@@ -8,7 +8,12 @@ use Rattle.record_text.specs.Names.{name_eq}
 use Rattle.record_text.specs.declared.kinds.Kind.{Kind}
 use Rattle.datasets.specs.Entries.{Row}
 use Rattle.datasets.specs.Dataset.{Dataset, at}
-use Rattle.session_core.specs.State.{SourceState, State}
+use Rattle.plan_model.specs.Acceptance.{Accepts}
+use Rattle.plan_model.specs.Fits.{misfit}
+use Rattle.plan_model.specs.Limits.{is_plan}
+use Rattle.plan_reader.specs.Plans.{is_built}
+use Rattle.session_core.specs.Named.{plan_name, source_name}
+use Rattle.session_core.specs.State.{PlanState, SourceState, State, family_of, types_of}
 
 -- each row that weighs something has the declared kinds, and no weight is below 0 unless that is declared
 pub record KeepsType (kinds : List Kind) (signed : Bool) (A : Dataset) : Type 0 where
@@ -22,8 +27,18 @@ pub record IsSoundSource (source : SourceState) : Type 0 where
   pub spent_within : source.spent ≤ source.total
   pub total_within : source.total ≤ 1000000000000000
 
--- at most 16 sources, of distinct names, each of them sound
+-- the plan is one that can be read, is accepted for the sources and fits them
+pub record IsSoundPlan (sources : List SourceState) (plan : PlanState) : Type 0 where
+  pub limits : IsTrue (is_plan plan.plan)
+  pub built : IsTrue (is_built plan.plan)
+  pub accepted : Accepts plan.plan (types_of sources)
+  pub fits : misfit plan.plan (types_of sources) (family_of sources) ≡ None
+
+-- at most 16 sources and 32 plans, of distinct names in each list, each of them sound
 pub record Sound (state : State) : Type 0 where
   pub few : length state.sources ≤ 16
-  pub distinct : IsDistinct name_eq (map (λ source. source.name) state.sources)
+  pub few_plans : length state.plans ≤ 32
+  pub distinct : IsDistinct name_eq (map source_name state.sources)
+  pub distinct_plans : IsDistinct name_eq (map plan_name state.plans)
   pub all_sound : All IsSoundSource state.sources
+  pub all_plans : All (IsSoundPlan state.sources) state.plans

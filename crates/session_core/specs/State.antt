@@ -1,7 +1,10 @@
 -- What the request machine keeps between two lines.
-use Rattle.std.specs.Prelude.{ℕ, Bool, List, []}
+use Rattle.std.specs.Prelude.{ℕ, Bool, List, [], map}
 use Rattle.record_text.specs.declared.kinds.Kind.{Kind}
 use Rattle.datasets.specs.Dataset.{Dataset, empty}
+use Rattle.plan_model.specs.Evaluation.{Family}
+use Rattle.plan_model.specs.declared.source_types.SourceType.{SourceType}
+use Rattle.plan_model.specs.declared.step.Step.{Step}
 
 -- a source: its name and type, its budget and what is spent of it in millionths of epsilon, and its rows with their weights
 pub record SourceState : Type 0 where
@@ -12,15 +15,37 @@ pub record SourceState : Type 0 where
   pub spent : ℕ
   pub rows : Dataset
 
--- whether exact answers are open, and the sources in the order of their declaration
+-- a plan under its name
+pub record PlanState : Type 0 where
+  pub name : List ℕ
+  pub plan : List Step
+
+-- whether exact answers are open, and the sources and the plans in the order of their declaration
 pub record State : Type 0 where
   pub curator : Bool
   pub sources : List SourceState
+  pub plans : List PlanState
 
--- no sources
+-- no sources and no plans
 abbrev pub start_state : Bool → State
-start_state curator = record { curator = curator; sources = [] }
+start_state curator = record { curator = curator; sources = []; plans = [] }
 
 -- a source as it is declared
 abbrev pub new_source : List ℕ → List Kind → Bool → ℕ → SourceState
 new_source name kinds signed total = record { name = name; kinds = kinds; signed = signed; total = total; spent = 0; rows = empty }
+
+-- a plan under a name
+abbrev pub new_plan : List ℕ → List Step → PlanState
+new_plan name plan = record { name = name; plan = plan }
+
+-- the type that plans see of a source
+abbrev pub type_of : SourceState → SourceType
+type_of source = record { name = source.name; kinds = source.kinds; signed = source.signed }
+
+-- the types of sources
+abbrev pub types_of : List SourceState → List SourceType
+types_of sources = map type_of sources
+
+-- the datasets of sources
+abbrev pub family_of : List SourceState → Family
+family_of sources = map (λ (source : SourceState). source.rows) sources

@@ -2,11 +2,17 @@
 //! Its step is defined in `specs/Machine.antt`; `Session::answer` is proved to be that step.
 #![tactic(auto)]
 
+mod budget;
+mod declare;
+mod exact;
 mod laws;
+mod parts;
+mod plans;
 mod session;
-mod source;
+mod sources;
 #[cfg(test)]
 mod tests;
+mod update;
 
 pub use laws::law_replies;
 pub use request_text::{MAX_LINE, Memory};

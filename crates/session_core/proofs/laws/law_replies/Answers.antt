@@ -1,4 +1,4 @@
-use Rattle.std.proofs.Common.{◌≡◌, ℕ, List, get_or, ap, arith}
+use Rattle.std.proofs.Common.{◌≡◌, ℕ, List, Some, None, get_or, ap, arith}
 use Rattle.request_text.specs.Requests.{request_on}
 use Rattle.request_text.specs.Replies.{reply_line}
 use Rattle.request_text.specs.declared.refusal.Refusal.TheVariants as refusal
@@ -18,10 +18,13 @@ unfolding reply_line serde_json_on_literals
 apart reply.Done e = let h : 116 ≡ 102 = ap (at 6) e in omega (arith, h)
 apart (reply.SumOf q) e = let h : 116 ≡ 102 = ap (at 6) e in omega (arith, h)
 apart (reply.Records count) e = let h : 116 ≡ 102 = ap (at 6) e in omega (arith, h)
+apart (reply.Planned cols uses) e = let h : 99 ≡ 111 = ap (at 2) e in omega (arith, h)
 apart (reply.Weights qs) e = let h : 116 ≡ 102 = ap (at 6) e in omega (arith, h)
 apart (reply.Refused refusal.Line) e = let h : 108 ≡ 109 = ap (at 19) e in omega (arith, h)
 apart (reply.Refused refusal.Json) e = let h : 106 ≡ 109 = ap (at 19) e in omega (arith, h)
-apart (reply.Refused (refusal.Shape field)) e = let h : 102 ≡ 111 = ap (at 2) e in omega (arith, h)
+apart (reply.Refused (refusal.Shape field None)) e = let h : 102 ≡ 111 = ap (at 2) e in omega (arith, h)
+apart (reply.Refused (refusal.Shape field (Some step))) e = let h : 102 ≡ 111 = ap (at 2) e in omega (arith, h)
+apart (reply.Refused (refusal.Over step limit)) e = let h : 108 ≡ 111 = ap (at 2) e in omega (arith, h)
 apart (reply.Refused (refusal.Weight place fault)) e = let h : 97 ≡ 111 = ap (at 2) e in omega (arith, h)
 apart (reply.Refused (refusal.Name field)) e = let h : 102 ≡ 111 = ap (at 2) e in omega (arith, h)
 apart (reply.Refused (refusal.Exists what name)) e = let h : 110 ≡ 111 = ap (at 2) e in omega (arith, h)
@@ -31,9 +34,11 @@ apart (reply.Refused refusal.Curator) e = let h : 99 ≡ 109 = ap (at 19) e in o
 apart (reply.Refused (refusal.Csv place what)) e = let h : 114 ≡ 119 = ap (at 13) e in omega (arith, h)
 apart (reply.Refused (refusal.RecordRange place)) e = let h : 114 ≡ 119 = ap (at 13) e in omega (arith, h)
 apart (reply.Refused (refusal.Negative place)) e = let h : 114 ≡ 119 = ap (at 13) e in omega (arith, h)
+apart (reply.Refused (refusal.Plan step what)) e = let h : 115 ≡ 119 = ap (at 13) e in omega (arith, h)
 apart (reply.Refused (refusal.Row place)) e = let h : 114 ≡ 119 = ap (at 13) e in omega (arith, h)
 apart (reply.Refused (refusal.Repeat place)) e = let h : 114 ≡ 119 = ap (at 13) e in omega (arith, h)
 apart (reply.Refused (refusal.SumRange place)) e = let h : 97 ≡ 111 = ap (at 2) e in omega (arith, h)
+apart (reply.Refused (refusal.Range plan step)) e = let h : 112 ≡ 119 = ap (at 13) e in omega (arith, h)
 
 pub returns : goal.returns
 unfolding step

@@ -1,0 +1,30 @@
+-- What follows from changes of a source in the plans.
+use Rattle.std.proofs.Common.{◌≡◌, ℕ, List, ap, subst, sym, ◌∙◌, None}
+use Rattle.std.specs.Prelude.{All}
+use Rattle.plan_model.specs.declared.source_types.SourceType.{SourceType}
+use Rattle.weighted_set.specs.declared.weighted.Change.{Change}
+use Rattle.session_core.specs.Machine.{first_misfit}
+use Rattle.session_core.specs.Parts.{ArePending}
+use Rattle.session_core.specs.Planned.{IsPrepared, IsSettled, MayTurnAll, plan_states}
+use Rattle.session_core.specs.State.{family_of, types_of}
+use Rattle.session_core.specs.declared.parts.Parts.{Parts}
+use Rattle.session_core.specs.declared.plans.Planned.{Planned}
+use Rattle.session_core.proofs.PlanLoops.{first_misfit-none}
+
+-- the plans may be turned by the changes
+pub may_turn : (parts : Parts) (at : ℕ) (changes : List Change) (plans : List Planned) → ArePending parts at changes → plans ≡ parts.plans.items
+    → MayTurnAll plans (types_of parts.sources.committed) at changes (family_of parts.sources.committed) (family_of parts.sources.pending)
+may_turn parts at changes plans h same = record {
+  settled = subst (λ (ps : List Planned). All (IsSettled (types_of parts.sources.committed) (family_of parts.sources.committed)) ps) (sym same) h.plans;
+  turns = h.turns;
+}
+
+-- where all plans are prepared, each of them fits
+pub follow_ok : (parts : Parts) (plans : List Planned) → types_of parts.sources.pending ≡ types_of parts.sources.committed
+    → plan_states plans ≡ plan_states parts.plans.items
+    → All (IsPrepared (types_of parts.sources.committed) (family_of parts.sources.committed) (family_of parts.sources.pending)) plans
+    → first_misfit (types_of parts.sources.pending) (family_of parts.sources.pending) (plan_states parts.plans.items) ≡ None
+follow_ok parts plans types states prepared =
+    ap (λ (ts : List SourceType). first_misfit ts (family_of parts.sources.pending) (plan_states parts.plans.items)) types
+    ∙ ap (first_misfit (types_of parts.sources.committed) (family_of parts.sources.pending)) (sym states)
+    ∙ first_misfit-none (types_of parts.sources.committed) (family_of parts.sources.pending) plans (λ k d lt. (prepared k d lt).pending.family.fits)

@@ -1,0 +1,86 @@
+-- What is kept of a plan, when a source is declared and when sources change.
+use Rattle.std.proofs.Common.{◌≡◌, ℕ, List, [], ◌∷◌, ◌++◌, refl, sym, ap, subst, ◌∙◌, length, map}
+use Rattle.std.specs.Prelude.{All, ◌≤◌}
+use Rattle.std.specs.List.{IsDistinct}
+use Rattle.std.proofs.lemmas.List.Elements.{All-map, All-weaker}
+use Rattle.std.proofs.lemmas.List.{map-append}
+use lib.ListN.{length-map}
+use Rattle.record_text.specs.Names.{name_eq}
+use Rattle.datasets.specs.Dataset.{Dataset}
+use Rattle.plan_model.specs.Evaluation.{Family, dataset_at, last_or}
+use Rattle.plan_model.specs.Types.{Keeps}
+use Rattle.plan_model.specs.declared.source_types.SourceType.{SourceType}
+use Rattle.weighted_set.specs.Held.{AllInRange}
+use Rattle.flow_graph.specs.PlanGraphs.{node_meaning}
+use Rattle.flow_graph.proofs.DeclaredLater.{IsGraphOf-extended, StandsFor-extended}
+use Rattle.session_core.specs.Named.{source_name}
+use Rattle.session_core.specs.Planned.{Holds, IsSettled, plan_state, plan_states}
+use Rattle.session_core.specs.Sound.{IsSoundPlan, IsSoundSource, Sound}
+use Rattle.session_core.specs.State.{SourceState, State, family_of, type_of, types_of}
+use Rattle.session_core.specs.declared.plans.Planned.{Planned}
+use Rattle.plan_model.proofs.AcceptedLater.{columns-extended, known-accepted}
+use Rattle.session_core.proofs.Typed.{AllInRange-sound, Keeps-sound}
+
+-- ---- one source more
+
+module _ (types : List SourceType) (t : SourceType) (F : Family) (A : Dataset) (same : length F ≡ length types)
+    (keeps : Keeps (types ++ t ∷ []) (F ++ A ∷ [])) (in_range : (s : ℕ) → AllInRange (dataset_at (F ++ A ∷ []) s)) where
+  -- the graph of a plan stands for the sources with one more
+  pub IsSettled-extended : (planned : Planned) → IsSettled types F planned → IsSettled (types ++ t ∷ []) (F ++ A ∷ []) planned
+  IsSettled-extended planned h = record {
+    holds = record {
+      graph = IsGraphOf-extended node_meaning planned.graph planned.plan types t h.holds.graph;
+      stands = StandsFor-extended node_meaning planned.graph planned.plan types t h.holds.graph F A same keeps in_range h.holds.stands;
+      cols = h.holds.cols ∙ sym (ap (last_or []) (columns-extended types t planned.plan (known-accepted types t planned.plan h.holds.graph.kept.accepted)));
+    };
+    idle = h.idle;
+  }
+
+-- the same, for the plans of a state to which a source is added
+pub AllSettled-declared : (sources : List SourceState) (new : SourceState) (plans : List Planned) → All IsSoundSource (sources ++ new ∷ [])
+    → All (IsSettled (types_of sources) (family_of sources)) plans
+    → All (IsSettled (types_of (sources ++ new ∷ [])) (family_of (sources ++ new ∷ []))) plans
+AllSettled-declared sources new plans sound all =
+    let types_are = map-append type_of sources (new ∷ []) in
+    let family_is = map-append (λ (source : SourceState). source.rows) sources (new ∷ []) in
+    let same = length-map sources (λ (source : SourceState). source.rows) ∙ sym (length-map sources type_of) in
+    let keeps = subst (λ F. Keeps (types_of sources ++ type_of new ∷ []) F) family_is (subst (λ types. Keeps types (family_of (sources ++ new ∷ []))) types_are (Keeps-sound (sources ++ new ∷ []) sound)) in
+    let in_range = subst (λ F. (s : ℕ) → AllInRange (dataset_at F s)) family_is (AllInRange-sound (sources ++ new ∷ []) sound) in
+    subst (λ F. All (IsSettled (types_of (sources ++ new ∷ [])) F) plans) (sym family_is)
+    (subst (λ types. All (IsSettled types (family_of sources ++ new.rows ∷ [])) plans) (sym types_are)
+    (All-weaker _ _ (IsSettled-extended (types_of sources) (type_of new) (family_of sources) new.rows same keeps in_range) plans all))
+
+-- ---- soundness
+
+IsSoundPlan-held : (sources : List SourceState) (planned : Planned) → Holds (types_of sources) (family_of sources) planned → IsSoundPlan sources (plan_state planned)
+IsSoundPlan-held sources planned h = record { limits = h.graph.kept.steps; built = h.graph.kept.built; accepted = h.graph.kept.accepted; fits = h.stands.family.fits }
+
+-- plans whose graphs stand for the sources are sound
+pub AllSound-held : (sources : List SourceState) (plans : List Planned) → All (Holds (types_of sources) (family_of sources)) plans → All (IsSoundPlan sources) (plan_states plans)
+AllSound-held sources plans all = All-map (IsSoundPlan sources) plan_state plans (All-weaker _ _ (IsSoundPlan-held sources) plans all)
+
+pub AllHeld-settled : (types : List SourceType) (F : Family) (plans : List Planned) → All (IsSettled types F) plans → All (Holds types F) plans
+AllHeld-settled types F plans all = All-weaker (IsSettled types F) (Holds types F) (λ planned h. h.holds) plans all
+
+names_by_types : (sources : List SourceState) → map source_name sources ≡ map (λ (t : SourceType). t.name) (types_of sources)
+names_by_types [] = refl
+names_by_types (source ∷ sources) = ap (λ names. source.name ∷ names) (names_by_types sources)
+
+-- sources of the same types have the same names, and are as many
+pub names_of-types : (sources others : List SourceState) → types_of sources ≡ types_of others → map source_name sources ≡ map source_name others
+names_of-types sources others same = names_by_types sources ∙ ap (map (λ (t : SourceType). t.name)) same ∙ sym (names_by_types others)
+
+pub length-types : (sources others : List SourceState) → types_of sources ≡ types_of others → length sources ≡ length others
+length-types sources others same = sym (length-map sources type_of) ∙ ap length same ∙ length-map others type_of
+
+-- the state with other sources of the same types, which the plans fit
+pub Sound-turned : (state : State) (sources : List SourceState) → Sound state → types_of sources ≡ types_of state.sources → All IsSoundSource sources
+    → All (IsSoundPlan sources) state.plans → Sound (record state { sources = sources })
+Sound-turned state sources sound same all_sound all_plans = record {
+  few = subst (λ n. n ≤ 16) (sym (length-types sources state.sources same)) sound.few;
+  few_plans = sound.few_plans;
+  distinct = subst (IsDistinct name_eq) (sym (names_of-types sources state.sources same)) sound.distinct;
+  distinct_plans = sound.distinct_plans;
+  all_sound = all_sound;
+  all_plans = all_plans;
+}

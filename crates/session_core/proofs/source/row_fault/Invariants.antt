@@ -1,5 +1,0 @@
-use Rattle.session_core.proofs.RowFaults.{IsFaultlessBefore}
-use Rattle.session_core.proofs.source.row_fault.Given as goal
-
-abbrev pub invariant-loop-at : goal.invariant-loop-at
-invariant-loop-at l = IsFaultlessBefore l.kinds l.rows l.at

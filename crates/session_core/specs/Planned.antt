@@ -1,0 +1,51 @@
+-- Plans that are kept up to date.
+use Rattle.std.specs.Prelude.{◌≡◌, ℕ, ◌<◌, All, List, [], length, map, slice_index_or, Some}
+use Rattle.plan_model.specs.Evaluation.{Family, last_or}
+use Rattle.plan_model.specs.Types.{columns}
+use Rattle.plan_model.specs.declared.source_types.SourceType.{SourceType}
+use Rattle.request_text.specs.declared.refusal.Refusal.TheVariants as refusal
+use Rattle.weighted_set.specs.declared.weighted.Change.{Change}
+use Rattle.session_core.specs.Flow.{IsGraphOf, IsIdle, StandsFor, StandsPending, TurnsInto}
+use Rattle.session_core.specs.Machine.{first_misfit}
+use Rattle.session_core.specs.State.{PlanState}
+use Rattle.session_core.specs.declared.plans.Planned.{Planned}
+use Rattle.session_core.specs.declared.plans.PlansFault.{PlansFault}
+use Rattle.session_core.specs.declared.plans.PlansFault.TheVariants.{Range, Memory}
+
+-- what callers see of a plan
+abbrev pub plan_state : Planned → PlanState
+plan_state planned = record { name = planned.name; plan = planned.plan }
+
+abbrev pub plan_states : List Planned → List PlanState
+plan_states plans = map plan_state plans
+
+-- the plan's graph stands for a family of these types, and its columns are told
+pub record Holds (types : List SourceType) (F : Family) (planned : Planned) : Type 0 where
+  pub graph : IsGraphOf planned.graph planned.plan types
+  pub stands : StandsFor planned.graph planned.plan types F
+  pub cols : planned.cols ≡ last_or [] (columns planned.plan types)
+
+-- and nothing is pending in it
+pub record IsSettled (types : List SourceType) (F : Family) (planned : Planned) : Type 0 where
+  pub holds : Holds types F planned
+  pub idle : IsIdle planned.graph
+
+-- and what is pending in it is what G gives
+pub record IsPrepared (types : List SourceType) (F G : Family) (planned : Planned) : Type 0 where
+  pub holds : Holds types F planned
+  pub pending : StandsPending planned.graph planned.plan types G
+
+-- settled plans on F, which the changes of a source turn into G
+pub record MayTurnAll (plans : List Planned) (types : List SourceType) (source : ℕ) (changes : List Change) (F G : Family) : Type 0 where
+  pub settled : All (IsSettled types F) plans
+  pub turns : TurnsInto types source changes F G
+
+-- a place of one of the plans; Memory is tied to nothing
+abbrev pub IsPlace : List Planned → PlansFault → Type 0
+IsPlace plans (Range place step) = place < length plans
+IsPlace plans Memory = Unit {0}
+
+-- the first plan that doesn't fit a family; Memory is tied to nothing
+abbrev pub IsFirstMisfit : List Planned → List SourceType → Family → PlansFault → Type 0
+IsFirstMisfit plans types F (Range place step) = (d : Planned) → first_misfit types F (plan_states plans) ≡ Some (refusal.Range (slice_index_or plans place d).name step)
+IsFirstMisfit plans types F Memory = Unit {0}

@@ -1,0 +1,174 @@
+//! The sources: rows with exact weights, each under a name, a declared type and a budget.
+ghost use Rattle.std.specs.Prelude.{◌≡◌, ◌<◌, ◌++◌, ◌∷◌, [], All, IfErr, IfOk, OnErr, OnOk, Some, false, length, map, position, slice_get, slice_set};
+ghost use Rattle.std.specs.List.{list_any};
+ghost use Rattle.plan_model.specs.Sources.{has_name};
+ghost use Rattle.weighted_set.specs.Adding.{AreChangesOfAdding, IsAddFault};
+ghost use Rattle.weighted_set.specs.Changes.{entries_of};
+ghost use Rattle.session_core.specs.Flow.{committed_family, pending_family};
+ghost use Rattle.session_core.specs.Machine.{with_weights};
+ghost use Rattle.session_core.specs.Named.{place_named, source_name};
+ghost use Rattle.session_core.specs.State.{SourceState, family_of, new_source, types_of};
+
+use crate::budget::Budget;
+use indexmap::IndexSet;
+use plan_model::{SourceType, SourceTypes};
+use record_text::Name;
+use request_text::Memory;
+use std::alloc::Global;
+use std::marker::Model;
+use weighted_set::{AddFault, Change, HeldSet, SourceSet, Weighted, law_changes};
+
+/// The most sources of a session.
+pub const MAX_SOURCES: usize = 16;
+
+/// The sources in order of declaration. Their rows change in two steps.
+#[derive(Drop)]
+pub struct Sources {
+    names: IndexSet<Name>,
+    types: SourceTypes,
+    sets: SourceSet,
+    budgets: Vec<Budget>,
+}
+
+impl Model for Sources {
+    ghost use Rattle.std.specs.Prelude.{◌+◌, ◌≤◌, length, vec_capacity, vec_len};
+    ghost use Rattle.std.specs.Coded.{codes};
+    ghost use Rattle.indexmap.specs.IndexSet.{spare};
+    ghost use Rattle.datasets.specs.Code.{dataset_code};
+    ghost use Rattle.session_core.specs.Held.{AreAlike, HeldSources, held_sources};
+
+    ghost Value = { HeldSources };
+
+    ghost coded = { Prim.hlevel (codes, dataset_code) };
+
+    ghost view = { λ s. held_sources s.types s.sets s.budgets.items };
+
+    ghost invariant = { λ s. AreAlike s.names.keys s.types s.sets s.budgets.items
+        × (16 ≤ spare s.names + vec_len s.budgets)
+        × (16 ≤ vec_capacity s.budgets) };
+}
+
+impl Sources {
+    /// No sources. It takes the room for 16 names and budgets.
+    pub fn new(alloc: Global) -> Result<Sources, Memory>
+        ensures committed { IfOk result (λ sources. sources.committed ≡ []) }
+        ensures pending { IfOk result (λ sources. sources.pending ≡ []) }
+    {
+        Ok(Sources {
+            names: IndexSet::with_capacity(alloc, MAX_SOURCES)?,
+            types: SourceTypes::new(alloc),
+            sets: SourceSet::new(alloc),
+            budgets: Vec::with_capacity(alloc, MAX_SOURCES)?,
+        })
+    }
+
+    /// How many sources there are.
+    pub fn len(&self) -> usize
+        ensures { result ≡ length self.now.committed }
+    {
+        self.budgets.len()
+    }
+
+    /// The place of the source of this name.
+    pub fn place_of(&self, name: Name) -> Option<usize>
+        ensures { result ≡ place_named source_name name self.now.committed }
+    {
+        self.names.get_index_of(&name)
+    }
+
+    /// The types of the sources.
+    pub fn types(&self) -> &SourceTypes
+        ensures { result.now ≡ types_of self.now.committed }
+    {
+        &self.types
+    }
+
+    /// The sets of the sources.
+    pub fn sets(&self) -> &SourceSet
+        ensures committed { committed_family result.now ≡ family_of self.now.committed }
+        ensures pending { pending_family result.now ≡ family_of self.now.pending }
+    {
+        &self.sets
+    }
+
+    /// The type of the source at a place.
+    pub fn source_type(&self, at: usize) -> SourceType
+        requires { at < length self.now.committed }
+        ensures { slice_get (types_of self.now.committed) at ≡ Some result }
+    {
+        self.types.at(at)
+    }
+
+    /// Appends a source without rows, of which nothing is spent. After `Memory` nothing is changed.
+    pub fn push(&mut self, alloc: Global, source_type: SourceType, total: u64) -> Result<(), Memory>
+        requires few { length self.old.committed < 16 }
+        requires fresh { has_name (types_of self.old.committed) source_type.name ≡ false }
+        ensures committed { OnOk result (self.new.committed ≡ self.old.committed ++ new_source source_type.name source_type.kinds source_type.signed total ∷ []) }
+        ensures pending { OnOk result (self.new.pending ≡ self.old.pending ++ new_source source_type.name source_type.kinds source_type.signed total ∷ []) }
+        ensures err { OnErr result (self.new ≡ self.old) }
+    {
+        let name = source_type.name;
+        self.types.push(source_type)?;
+        if self.sets.push(HeldSet::new(alloc)).is_err() {
+            self.types.drop_last();
+            return Err(Memory);
+        }
+        self.names.insert(name).unwrap();
+        self.budgets.push(Budget { total, spent: 0 }).unwrap();
+        Ok(())
+    }
+
+    /// Makes weights that are added to the source at a place pending, and answers the changes of its rows.
+    /// After a refusal nothing is pending.
+    pub fn prepare(&mut self, at: usize, added: &[Weighted]) -> Result<Vec<Change>, AddFault>
+        requires settled { self.old.pending ≡ self.old.committed }
+        requires place { at < length self.old.committed }
+        ensures committed { self.new.committed ≡ self.old.committed }
+        ensures changes { IfOk result (λ changes. (source : SourceState) → slice_get self.old.committed at ≡ Some source → AreChangesOfAdding source.rows added.now source.signed changes.items) }
+        ensures pending { OnOk result ((source : SourceState) → slice_get self.old.committed at ≡ Some source → self.new.pending ≡ slice_set self.old.committed at (with_weights source added.now)) }
+        ensures err { IfErr result (λ e. (source : SourceState) → slice_get self.old.committed at ≡ Some source → IsAddFault source.rows added.now source.signed e) }
+        ensures none_pending { OnErr result (self.new.pending ≡ self.old.committed) }
+    {
+        let signed = self.types.at(at).signed;
+        let changes = self.sets.at(at).changes_of(added, signed)?;
+        law_changes();
+        self.sets.at_mut(at).prepare(changes.as_slice())?;
+        Ok(changes)
+    }
+
+    /// Makes what is pending the state of the sources.
+    pub fn commit(&mut self)
+        ensures committed { self.new.committed ≡ self.old.pending }
+        ensures pending { self.new.pending ≡ self.old.pending }
+    {
+        commit_sets(&mut self.sets);
+    }
+
+    /// Drops what is pending.
+    pub fn abort(&mut self)
+        ensures committed { self.new.committed ≡ self.old.committed }
+        ensures pending { self.new.pending ≡ self.old.committed }
+    {
+        abort_sets(&mut self.sets);
+    }
+}
+
+// Makes the pending weights of each set the committed ones.
+fn commit_sets(sets: &mut SourceSet)
+    ensures committed { committed_family sets.new ≡ pending_family sets.old }
+    ensures pending { pending_family sets.new ≡ pending_family sets.old }
+{
+    for at in 0..sets.len() {
+        sets.at_mut(at).commit();
+    }
+}
+
+// Makes the committed weights of each set the pending ones.
+fn abort_sets(sets: &mut SourceSet)
+    ensures committed { committed_family sets.new ≡ committed_family sets.old }
+    ensures pending { pending_family sets.new ≡ committed_family sets.old }
+{
+    for at in 0..sets.len() {
+        sets.at_mut(at).abort();
+    }
+}
