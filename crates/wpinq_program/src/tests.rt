@@ -1,6 +1,7 @@
 //! Runs of the top call over devices in memory.
 ghost use Rattle.std.specs.Prelude.{◌≤◌, ◌≢◌};
 
+mod plans;
 mod sources;
 
 use crate::{Ending, MAX_BYTES, Word, wpinq};

@@ -26,7 +26,7 @@ const OPENING: [(&str, &str); 4] = [
 ];
 
 /// Answers the opening's lines and then these in one run under the words, and wants each line's reply.
-fn converse(
+pub fn converse(
     rt: &impl Abort,
     alloc: Global,
     texts: &[&str],
