@@ -1,11 +1,12 @@
 #!/usr/bin/env python3
-"""Times small updates of one source at several numbers of rows held.
+"""Times small updates of one source at several numbers of rows held, without and with a plan on them.
 
     bench/updates.py [PROGRAM]
 
 PROGRAM is the built program. Without it, the script ./wpinq of this repository is run, which builds the
-program first. Each size is one run: one update loads the rows, and then 1,000 updates of 10 records each,
-spread over those rows, are timed from the first that is sent to the last reply.
+program first. Each size is two runs: one update loads the rows, and then 1,000 updates of 10 records each,
+spread over those rows, are timed from the first that is sent to the last reply. In the second run a plan that
+keeps half of the rows and adds up those of the same tens is kept up to date all the while.
 """
 
 import json
@@ -19,6 +20,20 @@ SIZES = (1_000, 10_000, 100_000)
 UPDATES = 1_000
 RECORDS = 10
 MAX_INPUT = 1_048_576  # the most bytes that one run of the program takes
+
+
+def call(name, by):
+    """The expression that applies a primitive to the one column and a number."""
+    return {"call": name, "args": [{"col": 0}, {"int": by}]}
+
+
+# Keeps the odd rows, and selects of each the number of tens.
+STEPS = [
+    {"do": "source", "name": "a"},
+    {"do": "where", "of": 0, "if": call("mod", 2)},
+    {"do": "select", "of": 1, "row": [call("div", 10)]},
+]
+PLAN = {"format": 1, "steps": STEPS}
 
 
 def request(**fields):
@@ -40,15 +55,18 @@ def ask(server, lines, wanted):
             sys.exit(f"wanted {wanted}, and the program answered {reply.decode()!r}")
 
 
-def time_updates(program, held):
-    """How many seconds the updates take with so many rows held."""
+def time_updates(program, held, planned):
+    """How many seconds the updates take with so many rows held, and a plan on them where that is asked for."""
     chosen = random.Random(held)
     source = request(op="source", name="a", kinds=["int"], signed=False, budget=0)
+    plan = request(op="plan", name="p", plan=PLAN)
     load = update(range(held))
     updates = [update(chosen.sample(range(held), RECORDS)) for _ in range(UPDATES)]
-    assert len(source) + len(load) + sum(map(len, updates)) <= MAX_INPUT
+    assert len(source) + len(plan) + len(load) + sum(map(len, updates)) <= MAX_INPUT
     with subprocess.Popen([program], stdin=subprocess.PIPE, stdout=subprocess.PIPE) as server:
         ask(server, [source], {"ok": True})
+        if planned:
+            ask(server, [plan], {"ok": True, "cols": ["int"], "uses": [["a", 1]]})
         ask(server, [load], {"ok": True, "records": held})
         begun = time.perf_counter()
         ask(server, updates, {"ok": True, "records": RECORDS})
@@ -59,8 +77,9 @@ def main():
     top = pathlib.Path(__file__).resolve().parent.parent
     program = sys.argv[1] if len(sys.argv) > 1 else str(top / "wpinq")
     for held in SIZES:
-        seconds = time_updates(program, held)
-        print(f"{held:>7,} rows held: {UPDATES / seconds:>9,.0f} updates a second")
+        alone = UPDATES / time_updates(program, held, False)
+        planned = UPDATES / time_updates(program, held, True)
+        print(f"{held:>7,} rows held: {alone:>9,.0f} updates a second, {planned:>9,.0f} with a plan")
 
 
 if __name__ == "__main__":
