@@ -1,14 +1,13 @@
 -- Sound sources are a family that plans can be run on.
-use Rattle.std.proofs.Common.{◌≡◌, ℕ, zero, suc, List, [], ◌∷◌, Bool, true, false, ◌||◌, refl, sym, ap, subst, ◌∙◌, inl, inr, true≢false}
+use Rattle.std.proofs.Common.{◌≡◌, ℕ, zero, suc, List, [], ◌∷◌, Bool, true, false, sym, subst, ◌∙◌, inl, inr, true≢false}
 use Rattle.std.specs.Prelude.{All, ◌⊎◌}
-use Rattle.std.specs.List.{AllByRecursion}
 use Rattle.std.proofs.lemmas.List.Elements.{All-head, All-tail}
 use Rattle.ratios.specs.Ratio.{RatioLe, zero_ratio}
 use Rattle.ratios.specs.Range.{InRange}
-use Rattle.datasets.specs.Entries.{Row, has_row}
+use Rattle.datasets.specs.Entries.{Row}
 use Rattle.datasets.specs.Dataset.{Dataset, at, rows}
-use Rattle.datasets.proofs.Rows.{same_row-itself}
 use Rattle.datasets.proofs.Weights.{at-empty}
+use Rattle.operators.proofs.SingleWeights.{AllByRecursion-has_row}
 use Rattle.weighted_set.proofs.Parts.{at-present}
 use Rattle.weighted_set.specs.Held.{AllInRange}
 use Rattle.plan_model.specs.Evaluation.{dataset_at}
@@ -17,25 +16,13 @@ use Rattle.session_core.specs.Sound.{IsSoundSource}
 use Rattle.session_core.specs.State.{SourceState, family_of, type_of, types_of}
 use Rattle.session_core.proofs.SourceLemmas.{zero_in_range}
 
-or-right : (a b : Bool) → b ≡ true → (a || b) ≡ true
-or-right true b e = refl
-or-right false b e = e
-
-or-left : (a b : Bool) → a ≡ true → (a || b) ≡ true
-or-left a b e = ap (λ x. x || b) e
-
--- what holds of every row that is in a list holds of each of them
-all_present : (P : Row → Type 0) (xs : List Row) → ((x : Row) → has_row xs x ≡ true → P x) → AllByRecursion P xs
-all_present P [] h = tt
-all_present P (x ∷ xs) h = (h x (or-left _ (has_row xs x) (same_row-itself x)), all_present P xs (λ y e. h y (or-right _ (has_row xs y) e)))
-
 signs_kept : (signed : Bool) (A : Dataset) → (signed ≡ true) ⊎ ((row : Row) → RatioLe zero_ratio (at A row)) → signed ≡ false → (row : Row) → RatioLe zero_ratio (at A row)
 signs_kept signed A (inl free) strict = absurd (true≢false (sym free ∙ strict))
 signs_kept signed A (inr none) strict = none
 
 pub KeepsType-sound : (source : SourceState) → IsSoundSource source → KeepsType (type_of source) source.rows
 KeepsType-sound source sound = record {
-  columns = all_present _ (rows source.rows) (λ row here. sound.typed.kinds_kept row (at-present source.rows row here));
+  columns = AllByRecursion-has_row _ (rows source.rows) (λ row here. sound.typed.kinds_kept row (at-present source.rows row here));
   sign = signs_kept source.signed source.rows sound.typed.sign_kept;
 }
 
