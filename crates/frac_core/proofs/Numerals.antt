@@ -1,21 +1,17 @@
 -- What reading the digits of a text rests on.
-use Rattle.std.proofs.Common.{ℕ, suc, [], ◌∷◌, ap, ◌∙◌, ◌++◌, Some, ◌+◌, ◌*◌, ◌-◌, ◌^◌, ◌≤◌, ◌<◌, ◌≡◌, List, length, take, get_or, Bool, true, ◌&&◌, nat_lt, nat_le, refl, sym, ap₂, arith, ◌↔◌}
-use Rattle.std.specs.Prelude.{IsTrue}
-use Rattle.std.specs.List.{AllPass}
+use Rattle.std.proofs.Common.{ℕ, suc, [], ◌∷◌, ap, ◌∙◌, ◌++◌, Some, ◌+◌, ◌*◌, ◌-◌, ◌^◌, ◌≤◌, ◌<◌, ◌≡◌, List, length, take, get_or, true, ◌&&◌, nat_lt, nat_le, refl, sym, ap₂, arith}
+use Rattle.std.specs.List.{list_all}
 use Rattle.std.specs.Char.{digit_value, is_ascii_digit}
-use Rattle.std.specs.Str.{all_ascii_digits}
 use Rattle.std.specs.Str.Parse.{AllDigits, digits_value, digits_value_after}
 use Rattle.std.proofs.Math.Nat.{pow-le-pow_right, mul-le-mul}
 use Rattle.std.proofs.lemmas.Nat.{pow-add}
 use Rattle.std.proofs.lemmas.Bool.{and_parts}
-use Rattle.std.proofs.lemmas.Bool.Decides.{nat_tests, Decides-by_and, same_from_decides}
+use Rattle.std.proofs.lemmas.Bool.Decides.{nat_tests}
 use Rattle.std.proofs.lemmas.Int.Digits.{digits_value-lt, digits_value_more}
-use Rattle.std.proofs.lemmas.Str.Parse.{digit_at, digits_value-take-le, numerals_by_value, tells_all_ascii_digits, IsNumeralModel}
-use Rattle.frac_core.specs.Text.{is_short_numeral, decimal_of}
-
--- the test of std for texts of digits
-pub ascii_digits : IsNumeralModel (λ ds. all_ascii_digits ds ≡ true) (digits_value 10)
-ascii_digits = numerals_by_value (λ ds. all_ascii_digits ds ≡ true) tells_all_ascii_digits
+use Rattle.std.proofs.lemmas.Str.Parse.{digit_at, digits_value-take-le}
+use Rattle.numerals.specs.Numerals.{is_short_numeral}
+use Rattle.numerals.proofs.Digits.{ascii_digits}
+use Rattle.frac_core.specs.Text.{decimal_of}
 
 -- what the test of 1 to 19 digits says
 pub record IsShortNumeral (ds : List ℕ) : Type 0 where
@@ -25,7 +21,7 @@ pub record IsShortNumeral (ds : List ℕ) : Type 0 where
 
 pub short_numeral : (ds : List ℕ) → is_short_numeral ds ≡ true → IsShortNumeral ds
 short_numeral ds h =
-    let p = and_parts (nat_lt 0 (length ds) && nat_le (length ds) 19) (all_ascii_digits ds) h in
+    let p = and_parts (nat_lt 0 (length ds) && nat_le (length ds) 19) (list_all is_ascii_digit ds) h in
     let q = and_parts (nat_lt 0 (length ds)) (nat_le (length ds) 19) p.0 in
     let low : nat_lt 0 (length ds) ≡ true = q.0 in
     let high : nat_le (length ds) 19 ≡ true = q.1 in
@@ -37,12 +33,6 @@ short_numeral_test ds h =
     let low : nat_lt 0 (length ds) ≡ true = (let k = h.some in grind (arith, nat_tests)) in
     let high : nat_le (length ds) 19 ≡ true = (let k = h.short in grind (arith, nat_tests)) in
     rw (low, high, a) refl
-
--- a test that decides whether all are digits is std's
-pub all_digits_is : (ds : List ℕ) (r : Bool) → IsTrue r ↔ AllPass is_ascii_digit ds → r ≡ all_ascii_digits ds
-all_digits_is ds r h =
-    same_from_decides r (all_ascii_digits ds) (h.0, h.1)
-    (Decides-by_and is_ascii_digit (λ b. is_ascii_digit b ≡ true) all_ascii_digits (λ b. (λ e. e, λ e. e)) refl (λ _ _. refl) ds)
 
 -- ---- the number of the digits
 numeral_bound : (ds : List ℕ) → AllDigits 10 ds → length ds ≤ 19 → digits_value 10 ds < 10 ^ 19
@@ -73,13 +63,6 @@ digit_step ds i v s lt e =
 
 pub digits_value_below : (ds : List ℕ) → is_short_numeral ds ≡ true → digits_value 10 ds < 10 ^ 19
 digits_value_below ds s = let k = short_numeral ds s in numeral_bound ds k.digits k.short
-
--- at these lengths the digits alone are to be tested
-pub short_enough : (ds : List ℕ) → 0 < length ds → length ds ≤ 19 → all_ascii_digits ds ≡ is_short_numeral ds
-short_enough ds h k =
-    let low : nat_lt 0 (length ds) ≡ true = grind (arith, nat_tests) in
-    let high : nat_le (length ds) 19 ≡ true = grind (arith, nat_tests) in
-    ap₂ (λ a b. a && b && all_ascii_digits ds) (sym low) (sym high)
 
 -- ---- the digits before and after a point, as one number
 digits_value_after-append : (n : ℕ) (xs ys : List ℕ) → digits_value_after 10 n (xs ++ ys) ≡ digits_value_after 10 (digits_value_after 10 n xs) ys

@@ -1,10 +1,10 @@
 -- The text of a fraction, and the fraction that a weight's text gives.
-use Rattle.std.specs.Prelude.{ℕ, ◌+◌, ◌^◌, Bool, ◌&&◌, nat_lt, nat_le, ◌==◌, if◌then◌else◌, List, ◌∷◌, ◌++◌, length, pos, neg_ℤ, Option, Some, None, Result, Err, decimal, position}
+use Rattle.std.specs.Prelude.{ℕ, ◌+◌, ◌^◌, Bool, ◌&&◌, nat_le, ◌==◌, if◌then◌else◌, List, ◌∷◌, ◌++◌, length, pos, neg_ℤ, Option, Some, None, Result, Err, decimal, position}
 use Rattle.std.specs.Option.{option_map, option_zip, is_some}
 use Rattle.std.specs.List.{before_first, after_first}
 use Rattle.std.specs.Fmt.{signed_decimal}
-use Rattle.std.specs.Str.{all_ascii_digits}
 use Rattle.std.specs.Str.Parse.{digits_value, starts_with_minus, without_leading_sign}
+use Rattle.numerals.specs.Numerals.{is_short_numeral}
 use Rattle.ratios.specs.Ratio.{Ratio}
 use Rattle.frac_core.specs.Quotient.{quotient_of}
 use Rattle.frac_core.specs.declared.FracFault.{FracFault}
@@ -13,10 +13,6 @@ use Rattle.frac_core.specs.declared.FracFault.TheVariants.{BadText}
 -- `n` where the denominator is 1, else `n/d`, with a leading `-` where the numerator is negative; 47 is `/`
 abbrev pub ratio_text : Ratio → List ℕ
 ratio_text q = if q.den == 1 then signed_decimal q.num else signed_decimal q.num ++ 47 ∷ decimal q.den
-
--- 1 to 19 digits and nothing else
-abbrev pub is_short_numeral : List ℕ → Bool
-is_short_numeral bs = nat_lt 0 (length bs) && nat_le (length bs) 19 && all_ascii_digits bs
 
 -- 1 to 19 digits, as their number
 abbrev pub digits_of : List ℕ → Option ℕ

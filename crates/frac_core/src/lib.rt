@@ -5,9 +5,7 @@
 #![tactic(auto)]
 
 ghost use Rattle.std.specs.Prelude.{IfOk, IsTrue, IsUtf8, OnErr, OnOk, int_div, pos, position, string_bytes, unsigned_abs, ◌*ℤ◌, ◌*◌, ◌++◌, ◌<◌, ◌==◌, ◌^◌, ◌↔◌, ◌≡◌, ◌≢◌};
-ghost use Rattle.std.specs.Char.{is_ascii_digit};
 ghost use Rattle.std.specs.Cmp.{partial_equiv_from_equiv, partial_order_from_total};
-ghost use Rattle.std.specs.List.{AllPass};
 ghost use Rattle.std.specs.Ordering.{as_partial_cmp, eq_by_cmp};
 ghost use Rattle.std.specs.Str.Parse.{digits_value};
 ghost use Rattle.std.proofs.Common.{refl};
@@ -16,9 +14,11 @@ ghost use Rattle.ratios.specs.Gcd.{gcd};
 ghost use Rattle.ratios.specs.Range.{InRange, checked};
 ghost use Rattle.ratios.specs.Ratio.{one_ratio, ratio, ratio_abs, ratio_add, ratio_cmp, ratio_neg, ratio_sub, zero_ratio};
 ghost use Rattle.ratios.proofs.Order.{ratio_cmp_total};
+ghost use Rattle.numerals.specs.Numerals.{is_short_numeral};
 ghost use Rattle.frac_core.specs.Quotient.{quotient_of};
-ghost use Rattle.frac_core.specs.Text.{decimal_of, decimal_or_whole, digits_of, is_short_numeral, ratio_text, signed_quotient, unsigned_of, weight_of};
+ghost use Rattle.frac_core.specs.Text.{decimal_of, decimal_or_whole, digits_of, ratio_text, signed_quotient, unsigned_of, weight_of};
 
+use numerals::is_short_numeral;
 pub use std::alloc::AllocError as Memory;
 use std::alloc::Global;
 use std::cmp::Ordering;
@@ -192,20 +192,6 @@ fn denominators(a: Frac, b: Frac) -> u128
     u128::from(a.den) * u128::from(b.den)
 }
 
-// Whether the text is digits and nothing else.
-fn all_digits(text: &[u8]) -> bool
-    ensures { IsTrue result ↔ AllPass is_ascii_digit text.now }
-{
-    text.iter().all(|b| b.is_ascii_digit())
-}
-
-// Whether the text is 1 to 19 digits and nothing else.
-fn is_numeral(text: &[u8]) -> bool
-    ensures { result ≡ is_short_numeral text.now }
-{
-    0 < text.len() && text.len() <= 19 && all_digits(text)
-}
-
 // The number that the digits write.
 fn numeral(digits: &[u8]) -> u64
     requires { IsTrue (is_short_numeral digits.now) }
@@ -222,7 +208,7 @@ fn numeral(digits: &[u8]) -> u64
 fn digits(text: &[u8]) -> Option<u64>
     ensures { result ≡ digits_of text.now }
 {
-    if is_numeral(text) {
+    if is_short_numeral(text) {
         Some(numeral(text))
     } else {
         None
@@ -240,7 +226,10 @@ fn first_place(text: &[u8], byte: u8) -> Option<usize>
 fn decimal(whole: &[u8], fraction: &[u8]) -> Option<(u64, u64)>
     ensures { result ≡ decimal_of whole.now fraction.now }
 {
-    if !is_numeral(whole) || !is_numeral(fraction) || whole.len() + fraction.len() > 18 {
+    if !is_short_numeral(whole)
+        || !is_short_numeral(fraction)
+        || whole.len() + fraction.len() > 18
+    {
         return None;
     }
     let scale = 10u64.pow(fraction.len() as u32);

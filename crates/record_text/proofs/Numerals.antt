@@ -1,26 +1,23 @@
 -- Fields that are numbers, or texts.
-use Rattle.std.proofs.Common.{◌≡◌, ℕ, ◌<◌, ◌≤◌, true, false, cond, List, [], ◌∷◌, length, drop, ℤ, pos, negsuc, Some, None, Result, Ok, Err, refl, ap, rules, arith, nat_le, nat_lt, ◌==◌, ltb-true, leb-true, lt-ltb, le-leb, eqb-true, w64}
+use Rattle.std.proofs.Common.{◌≡◌, ℕ, ◌<◌, ◌≤◌, true, false, cond, List, [], ◌∷◌, length, drop, ℤ, pos, negsuc, Some, None, Result, Ok, Err, refl, ap, arith, nat_le, nat_lt, ◌==◌, ltb-true, leb-true, lt-ltb, le-leb, eqb-true, w64}
 use Rattle.std.specs.Prelude.{FitsSigned}
 use Rattle.std.specs.Char.{is_ascii_digit}
 use Rattle.std.specs.List.{list_all}
 use Rattle.std.specs.Result.{result_ok}
 use Rattle.std.specs.Str.{IsAscii, IsUtf8, is_utf8}
-use Rattle.std.specs.Str.Parse.{IsNumeral, ParsesSigned, digits_value, signed_digits_value, without_leading_sign}
+use Rattle.std.specs.Str.Parse.{IsNumeral, ParsesSigned, signed_digits_value, without_leading_sign}
 use Rattle.std.proofs.lemmas.Bool.{and_from, and_parts}
 use Rattle.std.proofs.lemmas.Bool.Decides.{nat_tests}
 use Rattle.std.proofs.lemmas.Str.{IsUtf8-from_ascii, IsUtf8-from_is_utf8, is_utf8-from_IsUtf8}
 use Rattle.std.proofs.lemmas.Str.Ascii.{IsAscii-nil, IsAscii-cons}
-use Rattle.std.proofs.lemmas.Str.Parse.{IsNumeralModel, numerals_by_value}
-use Rattle.record_text.specs.FieldAtoms.{is_short_numeral, is_i64, is_int_field, int_of_field, text_of_field}
+use Rattle.numerals.specs.Numerals.{is_short_numeral}
+use Rattle.numerals.proofs.Digits.{ascii_digits}
+use Rattle.record_text.specs.FieldAtoms.{is_i64, is_int_field, int_of_field, text_of_field}
 use Rattle.record_text.specs.declared.atom.Atom.TheVariants.{Text}
 use Rattle.record_text.specs.declared.field.AtomFault.TheVariants as fault
 use Rattle.record_text.proofs.Bytes.{IsAscii-passed}
 
 -- ---- numbers
-
--- the test of ASCII digits, in the words of `parse`
-ascii_digits : IsNumeralModel (λ digits. list_all is_ascii_digit digits ≡ true) (digits_value 10)
-ascii_digits = numerals_by_value (λ digits. list_all is_ascii_digit digits ≡ true) (search rules)
 
 IsNumeral-short : (digits : List ℕ) → is_short_numeral digits ≡ true → IsNumeral 10 digits
 IsNumeral-short digits short =

@@ -1,20 +1,15 @@
 -- The atom that a field of a record denotes.
 use Rattle.std.specs.Prelude.{◌≡◌, ℕ, ◌^◌, Bool, ◌&&◌, nat_lt, nat_le, if◌then◌else◌, ℤ, pos, negsuc, List, length, Option, Some, None, option_map, ⊤, Result, Ok, Err}
-use Rattle.std.specs.Char.{is_ascii_digit}
-use Rattle.std.specs.List.{list_all}
 use Rattle.std.specs.Str.{is_utf8}
 use Rattle.std.specs.Str.Parse.{signed_digits_value, without_leading_sign}
 use Rattle.json_fields.specs.Walk.{needed}
+use Rattle.numerals.specs.Numerals.{is_short_numeral}
 use Rattle.record_text.specs.declared.atom.Atom.{Atom}
 use Rattle.record_text.specs.declared.atom.Atom.TheVariants.{Int, Text}
 use Rattle.record_text.specs.declared.field.AtomFault.{AtomFault}
 use Rattle.record_text.specs.declared.field.AtomFault.TheVariants as fault
 use Rattle.record_text.specs.declared.kinds.Kind.{Kind}
 use Rattle.record_text.specs.declared.kinds.Kind.TheVariants as kind
-
--- 1 to 19 digits and nothing else
-abbrev pub is_short_numeral : List ℕ → Bool
-is_short_numeral digits = nat_lt 0 (length digits) && nat_le (length digits) 19 && list_all is_ascii_digit digits
 
 -- a number that an i64 holds; `negsuc n` is -(n + 1)
 abbrev pub is_i64 : ℤ → Bool

@@ -1,19 +1,15 @@
 //! Atoms in the fields of CSV records.
 ghost use Rattle.std.specs.Prelude.{◌≡◌};
 ghost use Rattle.std.specs.Str.Parse.{without_leading_sign};
-ghost use Rattle.std.specs.Char.{is_ascii_digit};
-ghost use Rattle.std.specs.List.{list_all};
-ghost use Rattle.record_text.specs.FieldAtoms.{is_short_numeral, int_of_field, text_of_field, atom_of_field, GivesAtom};
+ghost use Rattle.record_text.specs.FieldAtoms.{int_of_field, text_of_field, atom_of_field, GivesAtom};
 
 use crate::atom::Atom;
 use crate::kinds::Kind;
 use crate::short_text::{ShortText, TextFault};
+use numerals::is_short_numeral;
 use std::alloc::Global;
 use std::str;
 use thiserror::Error;
-
-// The most digits of a number.
-const MAX_DIGITS: usize = 19;
 
 /// Why a field is no atom of a kind.
 #[derive(Clone, Copy, Debug, PartialEq, Eq, Error)]
@@ -66,18 +62,6 @@ fn without_sign(field: &[u8]) -> &[u8]
         Some(b'-' | b'+') => &field[1..],
         _ => field,
     }
-}
-
-fn is_short_numeral(digits: &[u8]) -> bool
-    ensures { result ≡ is_short_numeral digits.now }
-{
-    0 < digits.len() && digits.len() <= MAX_DIGITS && are_digits(digits)
-}
-
-fn are_digits(digits: &[u8]) -> bool
-    ensures { result ≡ list_all is_ascii_digit digits.now }
-{
-    digits.iter().all(|byte| byte.is_ascii_digit())
 }
 
 fn text_from_field(alloc: Global, field: &[u8]) -> Result<Atom, AtomFault>

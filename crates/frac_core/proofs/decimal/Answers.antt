@@ -7,7 +7,7 @@ use Rattle.frac_core.proofs.decimal.Goals.{After-numeral}
 numbers : (c : After-numeral) → IsDecimal c.args.whole.now c.args.fraction.now c.numeral.result (digits_value 10 c.args.fraction.now) c.pow-scale.result
 numbers c =
     decimal_numbers c.args.whole.now c.args.fraction.now c.numeral.result (digits_value 10 c.args.fraction.now) c.pow-scale.result
-    (sym c.is_numeral.ensures ∙ c.if-not-is_numeral.false) (sym c.is_numeral-else-not-is_numeral.ensures ∙ c.if-not-is_numeral-2.false)
+    (sym c.is_short_numeral.ensures ∙ c.if-not-is_short_numeral.false) (sym c.is_short_numeral-else-not-is_short_numeral.ensures ∙ c.if-not-is_short_numeral-2.false)
     c.if-whole-fraction-gt18.false c.numeral.ensures refl c.pow-scale.ensures
 
 pub overflow_mul-result : goal.overflow_mul-result

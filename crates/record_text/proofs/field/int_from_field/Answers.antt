@@ -1,6 +1,6 @@
 use Rattle.std.proofs.Common.{◌≡◌, true, sym, ◌∙◌, ap, w64}
 use Rattle.std.specs.Str.Parse.{ParsesSigned, without_leading_sign}
-use Rattle.record_text.specs.FieldAtoms.{is_short_numeral}
+use Rattle.numerals.specs.Numerals.{is_short_numeral}
 use Rattle.record_text.proofs.Numerals.{IsUtf8-numeral, parsed, short-length}
 use Rattle.record_text.proofs.field.int_from_field.Goals as goal
 
