@@ -1,17 +1,18 @@
 -- What `reduce` and the operations above it rest on.
-use Rattle.std.proofs.Common.{ℕ, zero, suc, ◌/◌, ◌≤◌, ◌<◌, ◌≡◌, ◌≢◌, ◌^◌, ℤ, pos, negsuc, ◌*ℤ◌, neg_ℤ, ◌≤ℤ◌, ◌<ℤ◌, unsigned_abs, int_div, refl, sym, ap, ap₂, subst, subst₂, ◌∙◌, arith, SFits, to_z, of_z, w64}
+use Rattle.std.proofs.Common.{ℕ, zero, suc, ◌/◌, ◌≤◌, ◌<◌, ◌≡◌, ◌≢◌, ◌^◌, ℤ, pos, negsuc, ◌*ℤ◌, neg_ℤ, ◌<ℤ◌, unsigned_abs, int_div, refl, sym, ap, ap₂, subst, subst₂, ◌∙◌, arith, SFits, to_z, of_z, w64}
 use Rattle.std.specs.Int.{IsGcd}
 use Rattle.std.specs.Option.{ok_or}
 use Rattle.std.proofs.lemmas.Int.{ints, unsigned_abs-mul, quot_fits, to_z-of_z}
-use mir.Syntax.{w128}
+use mir.Syntax.{Width, w128}
 use Rattle.std.proofs.lemmas.Nat.{mul-lt}
-use Rattle.std.proofs.lemmas.Nat.Gcd.{le_of_dvd}
+use Rattle.std.proofs.lemmas.Nat.Gcd.{le_of_dvd, IsGcd-swap}
 use Rattle.std.proofs.Math.Nat.{pos_of_dvd_of_pos}
 use Rattle.ratios.specs.Gcd.{gcd, IsGcd-gcd}
-use Rattle.ratios.specs.Ratio.{Ratio, ratio, IsReduced}
+use Rattle.ratios.specs.Ratio.{Ratio, ratio, IsReduced, zero_ratio}
 use Rattle.ratios.specs.Code.{ratio-num, ratio-den}
 use Rattle.ratios.specs.Range.{InRange, checked}
 use Rattle.ratios.proofs.Range.{bounds_of_InRange}
+use Rattle.ratios.proofs.Crossing.{num_not_zero}
 use Rattle.frac_core.specs.Quotient.{quotient_of}
 use Rattle.frac_core.specs.declared.FracFault.TheVariants.{OutOfRange}
 
@@ -32,6 +33,10 @@ ratio_divided n m d g h e f =
     let k : gcd (unsigned_abs n) d ≡ g = ap (λ t. gcd t d) (sym e) ∙ sym f in
     record { num_is = ratio-num n d h ∙ ap (λ t. int_div n (pos t)) k; den_is = ratio-den n d h ∙ ap (λ t. d / t) k }
 
+-- with no common divisor but 1 they are reduced
+pub reduced_at_one : (n : ℤ) (m d g : ℕ) → 0 < d → m ≡ unsigned_abs n → g ≡ gcd m d → g ≡ 1 → IsReduced n d
+reduced_at_one n m d g h e f k = (h, subst₂ (λ m g. IsGcd m d g) e (sym f ∙ k) (IsGcd-gcd m d))
+
 -- a part past the limit is out of range
 pub num_out : (q : Ratio) (n : ℤ) → q.num ≡ n → 2 ^ 62 ≤ unsigned_abs n → ¬ (InRange q)
 num_out q n e h r = let b = bounds_of_InRange q r in let f = ap unsigned_abs e in absurd (omega arith)
@@ -40,18 +45,14 @@ pub den_out : (q : Ratio) (d : ℕ) → q.den ≡ d → 2 ^ 62 ≤ d → ¬ (InR
 den_out q d e h r = let b = bounds_of_InRange q r in absurd (omega arith)
 
 -- ---- products that fit
-pub quotient_fits : (n : ℤ) (g : ℕ) → SFits w128 n → 0 < g → g < 2 ^ 127 → SFits w128 (int_div (to_z w128 (of_z w128 n)) (to_z w128 g))
-quotient_fits n g f h k =
-    let d : SFits w128 (pos g) = omega (arith, ints) in
+pub quotient_fits : (w : Width) (n : ℤ) (g : ℕ) → SFits w n → SFits w (pos g) → 0 < g → SFits w (int_div (to_z w (of_z w n)) (to_z w g))
+quotient_fits w n g f d h =
     let p : pos 0 <ℤ pos g = omega (arith, ints) in
-    subst₂ (λ a b. SFits w128 (int_div a b)) (sym (to_z-of_z w128 n f)) (sym (to_z-of_z w128 (pos g) d)) (quot_fits w128 n (pos g) f p)
+    subst₂ (λ a b. SFits w (int_div a b)) (sym (to_z-of_z w n f)) (sym (to_z-of_z w (pos g) d)) (quot_fits w n (pos g) f p)
 
--- the fields of a fraction that are the parts of q
-pub fields_of : (q : Ratio) (n : ℤ) (d : ℕ) → n ≡ q.num → d ≡ q.den → unsigned_abs n < 2 ^ 62 → d < 2 ^ 62 →
-    IsReduced n d × (unsigned_abs n < 2 ^ 62) × (d < 2 ^ 62)
-fields_of q n d e f h k =
-    let P : ℤ → ℕ → Type 0 = λ n d. IsReduced n d in
-    (subst₂ P (sym e) (sym f) (q.positive, q.coprime), h, k)
+-- a reduced pair, written otherwise
+pub reduced_as : (m n : ℤ) (d e : ℕ) → m ≡ n → d ≡ e → IsReduced n e → IsReduced m d
+reduced_as m n d e p q h = let P : ℤ → ℕ → Type 0 = λ n d. IsReduced n d in subst₂ P (sym p) (sym q) h
 
 -- a small number survives two casts
 pub cast_is : (z : ℤ) → unsigned_abs z < 2 ^ 62 → to_z w64 (of_z w64 (to_z w128 (of_z w128 z))) ≡ z
@@ -78,20 +79,7 @@ pub product_exact_small : (x y m n : ℤ) → x ≡ m → y ≡ n → unsigned_a
     unsigned_abs (to_z w128 (of_z w128 (to_z w128 (of_z w128 x) *ℤ to_z w128 (of_z w128 y)))) < 2 ^ 124
 product_exact_small x y m n e f h k = rw (product_exact x y m n e f h k) (product_small m n h k)
 
--- ---- signs
-not_below : (d : ℤ) → d <ℤ pos 0 → ¬ (pos 0 ≤ℤ d)
-not_below d h k = omega (arith, ints)
-
-pub ratio-negative : (n d : ℤ) (m : ℕ) → m ≡ unsigned_abs d → d <ℤ pos 0 → ratio (neg_ℤ n) (pos m) ≡ ratio n d
-unfolding ratio
-ratio-negative n (pos k) m e h = absurd (not_below (pos k) h (omega (arith, ints)))
-ratio-negative n (negsuc k) m e h = rw e refl
-
-pub ratio-positive : (n d : ℤ) (m : ℕ) → m ≡ unsigned_abs d → pos 0 ≤ℤ d → ratio n (pos m) ≡ ratio n d
-ratio-positive n (pos k) m e h = ap (λ t. ratio n (pos t)) e
-ratio-positive n (negsuc k) m e h = absurd (not_below (negsuc k) (omega (arith, ints)) h)
-
--- a checked ratio of numbers written otherwise
+-- ---- numbers written otherwise
 pub checked_as : (n m : ℤ) (d e : ℕ) → n ≡ m → d ≡ e → checked (ratio n (pos d)) ≡ checked (ratio m (pos e))
 checked_as n m d e p q = ap₂ (λ n d. checked (ratio n (pos d))) p q
 
@@ -112,3 +100,15 @@ pub negated_fields : (n t : ℤ) (d : ℕ) → t ≡ neg_ℤ n → IsReduced n d
 negated_fields n t d e h =
     let f : unsigned_abs n ≡ unsigned_abs t = sym (ap unsigned_abs e ∙ unsigned_abs-neg n) in
     subst (λ m. ((0 < d) × IsGcd m d 1) × (m < 2 ^ 62) × (d < 2 ^ 62)) f h
+
+-- ---- the fields of 1 over q
+positive_abs : (n : ℤ) → n ≢ pos 0 → 0 < unsigned_abs n
+positive_abs (pos zero) h = absurd (h refl)
+positive_abs (pos (suc n)) h = omega (arith, ints)
+positive_abs (negsuc n) h = omega (arith, ints)
+
+pub inverse_fields : (q : Ratio) (z : ℤ) (m : ℕ) → q ≢ zero_ratio → unsigned_abs z ≡ q.den → m ≡ unsigned_abs q.num → unsigned_abs q.num < 2 ^ 62 → q.den < 2 ^ 62 →
+    IsReduced z m × (unsigned_abs z < 2 ^ 62) × (m < 2 ^ 62)
+inverse_fields q z m h e f j k =
+    let p = positive_abs q.num (num_not_zero q h) in
+    ((omega arith, rw (e, f) (IsGcd-swap (unsigned_abs q.num) q.den 1 q.coprime)), omega arith, omega arith)

@@ -12,7 +12,7 @@ ghost use Rattle.std.proofs.Common.{refl};
 ghost use Rattle.std.proofs.lemmas.Cmp.{eq_by_cmp_equiv};
 ghost use Rattle.ratios.specs.Gcd.{gcd};
 ghost use Rattle.ratios.specs.Range.{InRange, checked};
-ghost use Rattle.ratios.specs.Ratio.{one_ratio, ratio, ratio_abs, ratio_add, ratio_cmp, ratio_neg, ratio_sub, zero_ratio};
+ghost use Rattle.ratios.specs.Ratio.{IsReduced, one_ratio, ratio, ratio_abs, ratio_add, ratio_cmp, ratio_div, ratio_floor_units, ratio_half, ratio_mul, ratio_neg, ratio_sub, zero_ratio};
 ghost use Rattle.ratios.proofs.Order.{ratio_cmp_total};
 ghost use Rattle.numerals.specs.Numerals.{is_short_numeral};
 ghost use Rattle.frac_core.specs.Quotient.{quotient_of};
@@ -108,8 +108,14 @@ impl Ord for Frac {
 // The first number that neither part of a fraction reaches.
 const LIMIT: u128 = 1 << 62;
 
+// The greatest number of 64 bits.
+const WORD_MAX: u128 = u64::MAX as u128;
+
+// How many units make 1.
+const UNITS: i128 = 1 << 20;
+
 // The greatest common divisor, by Euclid's algorithm.
-fn greatest_common_divisor(a: u128, b: u128) -> u128
+fn greatest_common_divisor(a: u64, b: u64) -> u64
     ensures { result ≡ gcd a b }
 {
     let mut x = a;
@@ -122,6 +128,23 @@ fn greatest_common_divisor(a: u128, b: u128) -> u128
     x
 }
 
+// The same of wider numbers, whose slower remainders are taken only until 64 bits are enough.
+fn wide_greatest_common_divisor(a: u128, b: u128) -> u128
+    ensures { result ≡ gcd a b }
+{
+    let mut x = a;
+    let mut y = b;
+    while y > WORD_MAX {
+        let rest = x % y;
+        x = y;
+        y = rest;
+    }
+    if y == 0 {
+        return x;
+    }
+    u128::from(greatest_common_divisor(y as u64, (x % y) as u64))
+}
+
 // `n / g`, rounded toward 0.
 fn divided(n: i128, g: u128) -> i128
     requires positive { 0 < g }
@@ -131,15 +154,11 @@ fn divided(n: i128, g: u128) -> i128
     n / g as i128
 }
 
-// `n / d`, reduced, where it is in range.
-fn reduce(n: i128, d: u128) -> Option<Frac>
-    requires positive { 0 < d }
-    requires small { d < 2 ^ 127 }
-    ensures { result ≡ checked (ratio n (pos d)) }
+// The fraction of two parts that are reduced, where they are in range.
+fn within_range(num: i128, den: u128) -> Option<Frac>
+    requires { IsReduced num den }
+    ensures { result ≡ checked (ratio num (pos den)) }
 {
-    let divisor = greatest_common_divisor(n.unsigned_abs(), d);
-    let num = divided(n, divisor);
-    let den = d / divisor;
     if num.unsigned_abs() >= LIMIT || den >= LIMIT {
         return None;
     }
@@ -147,6 +166,19 @@ fn reduce(n: i128, d: u128) -> Option<Frac>
         num: num as i64,
         den: den as u64,
     })
+}
+
+// `n / d`, reduced, where it is in range.
+fn reduce(n: i128, d: u128) -> Option<Frac>
+    requires positive { 0 < d }
+    requires small { d < 2 ^ 127 }
+    ensures { result ≡ checked (ratio n (pos d)) }
+{
+    let divisor = wide_greatest_common_divisor(n.unsigned_abs(), d);
+    if divisor == 1 {
+        return within_range(n, d);
+    }
+    within_range(divided(n, divisor), d / divisor)
 }
 
 // The same of numbers of either sign.
@@ -161,6 +193,22 @@ fn reduce_signed(n: i128, d: i128) -> Option<Frac>
     } else {
         reduce(n, d.unsigned_abs())
     }
+}
+
+// `n / d`, reduced, of numbers that are in range themselves.
+fn reduce_small(n: i64, d: u64) -> Frac
+    requires positive { 0 < d }
+    requires small_n { unsigned_abs n < 2 ^ 62 }
+    requires small_d { d < 2 ^ 62 }
+    ensures { result ≡ ratio n (pos d) }
+{
+    let divisor = greatest_common_divisor(n.unsigned_abs(), d);
+    if divisor == 1 {
+        return Frac { num: n, den: d };
+    }
+    let num = n / divisor as i64;
+    let den = d / divisor;
+    Frac { num, den }
 }
 
 // The fraction `n / d`, or the fault that keeps it out.
@@ -181,6 +229,13 @@ fn cross(a: Frac, b: Frac) -> i128
     ensures small { unsigned_abs result < 2 ^ 124 }
 {
     i128::from(a.num) * i128::from(b.den)
+}
+
+// The product of the numerators.
+fn numerators(a: Frac, b: Frac) -> i128
+    ensures { result ≡ a.num *ℤ b.num }
+{
+    i128::from(a.num) * i128::from(b.num)
 }
 
 // The product of the denominators.
@@ -332,6 +387,51 @@ impl Frac {
         reduce(num, denominators(self, other))
     }
 
+    /// The exact product, or `None` where it is out of range.
+    pub fn mul(self, other: Frac) -> Option<Frac>
+        ensures { result ≡ checked (ratio_mul self other) }
+    {
+        // With each numerator reduced by the other denominator, the product is reduced.
+        let first = reduce_small(self.num, other.den);
+        let second = reduce_small(other.num, self.den);
+        within_range(numerators(first, second), denominators(first, second))
+    }
+
+    /// The exact quotient, or `None` where it is out of range; `other` is not 0.
+    pub fn div(self, other: Frac) -> Option<Frac>
+        requires { other ≢ zero_ratio }
+        ensures { result ≡ checked (ratio_div self other) }
+    {
+        self.mul(other.reciprocal())
+    }
+
+    // 1 over the fraction.
+    fn reciprocal(self) -> Frac
+        requires { self ≢ zero_ratio }
+        ensures { result ≡ ratio (pos self.den) self.num }
+    {
+        let num = self.den as i64;
+        let den = self.num.unsigned_abs();
+        if self.num < 0 {
+            return Frac { num: -num, den };
+        }
+        Frac { num, den }
+    }
+
+    /// The exact half, or `None` where it is out of range.
+    pub fn half(self) -> Option<Frac>
+        ensures { result ≡ checked (ratio_half self) }
+    {
+        self.mul(Frac { num: 1, den: 2 })
+    }
+
+    /// The greatest whole number that is at most the value times 2^20.
+    pub fn floor_units(self) -> i128
+        ensures { result ≡ ratio_floor_units self }
+    {
+        (i128::from(self.num) * UNITS).div_euclid(i128::from(self.den))
+    }
+
     /// The same fraction with the other sign, which is never out of range.
     pub fn neg(self) -> Frac
         ensures { result ≡ ratio_neg self }
@@ -404,6 +504,12 @@ mod tests {
     fn parts(answer: Result<Frac, FracFault>) -> Result<(i64, i64), FracFault> {
         let found = answer?;
         Ok((found.numer(), found.denom()))
+    }
+
+    // The numerator and the denominator of a fraction that is in range.
+    fn checked_parts(answer: Option<Frac>) -> Option<(i64, i64)> {
+        let found = answer?;
+        Some((found.numer(), found.denom()))
     }
 
     #[test]
@@ -485,11 +591,62 @@ mod tests {
         ];
         for (first, second, answer) in rows {
             let sum = Frac::read(first.as_bytes())?.add(Frac::read(second.as_bytes())?);
-            assert_eq!(rt;
-                sum.map(|found| (found.numer(), found.denom())),
-                answer,
-                "{first} {second}"
+            assert_eq!(rt; checked_parts(sum), answer, "{first} {second}");
+        }
+        Ok(())
+    }
+
+    #[test]
+    fn products_and_quotients_are_reduced_before_their_range_is_tested(
+        rt: HostRuntime,
+    ) -> Result<(), Fail> {
+        let rows = [
+            ("3/4", "-2/9", Some((-1, 6)), Some((-27, 8))),
+            ("-3/2", "-1/2", Some((3, 4)), Some((3, 1))),
+            ("0", "-5/7", Some((0, 1)), Some((0, 1))),
+            (
+                "4611686018427387903",
+                "1/4611686018427387903",
+                Some((1, 1)),
+                None,
+            ),
+            ("2147483648", "2147483648", None, Some((1, 1))),
+            (
+                "-2147483648",
+                "2147483647",
+                Some((-4611686016279904256, 1)),
+                Some((-2147483648, 2147483647)),
+            ),
+            ("1/2147483648", "-2147483648", Some((-1, 1)), None),
+        ];
+        for (first, second, product, quotient) in rows {
+            let (first, second) = (
+                Frac::read(first.as_bytes())?,
+                Frac::read(second.as_bytes())?,
             );
+            assert_eq!(rt; checked_parts(first.mul(second)), product);
+            assert!(rt; second != Frac::zero());
+            assert_eq!(rt; checked_parts(first.div(second)), quotient);
+        }
+        Ok(())
+    }
+
+    #[test]
+    fn halves_are_exact_or_refused_and_units_are_rounded_down(rt: HostRuntime) -> Result<(), Fail> {
+        let rows = [
+            ("1/3", Some((1, 6)), 349525),
+            ("-1/3", Some((-1, 6)), -349526),
+            ("9/19", Some((9, 38)), 496693),
+            ("9/56", Some((9, 112)), 168521),
+            ("3/2", Some((3, 4)), 1572864),
+            ("-6", Some((-3, 1)), -6291456),
+            ("1/2305843009213693952", None, 0),
+            ("-1/2305843009213693952", None, -1),
+        ];
+        for (text, half, units) in rows {
+            let weight = Frac::read(text.as_bytes())?;
+            assert_eq!(rt; checked_parts(weight.half()), half, "{text}");
+            assert_eq!(rt; weight.floor_units(), units, "{text}");
         }
         Ok(())
     }

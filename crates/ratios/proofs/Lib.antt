@@ -8,3 +8,4 @@ pub mod SumLaws
 pub mod Range
 pub mod Sums
 pub mod Products
+pub mod Crossing

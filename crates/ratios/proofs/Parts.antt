@@ -1,5 +1,5 @@
 -- The parts of a ratio, and the quotient that it is.
-use Rattle.std.specs.Prelude.{ℕ, zero, suc, ◌≡◌, ◌≢◌, ℤ, pos, negsuc, ◌*ℤ◌, neg_ℤ, refl}
+use Rattle.std.specs.Prelude.{ℕ, zero, suc, ◌≡◌, ◌≢◌, ℤ, pos, negsuc, ◌*ℤ◌, neg_ℤ, ◌≤ℤ◌, ◌<ℤ◌, unsigned_abs, refl}
 use Rattle.std.proofs.Common.{sym, ap, ap₂, ◌∙◌, arith}
 use Rattle.std.proofs.lemmas.Int.{ints}
 use Rattle.std.proofs.Math.IntN.{*ℤ_comm}
@@ -29,6 +29,15 @@ ratio-zero = ratio-itself zero_ratio
 pub ratio-one : ratio (pos 1) (pos 1) ≡ one_ratio
 unfolding one_ratio
 ratio-one = ratio-itself one_ratio
+
+-- ---- the sign of the denominator
+not_below : (d : ℤ) → d <ℤ pos 0 → ¬ (pos 0 ≤ℤ d)
+not_below d h k = omega (arith, ints)
+
+pub ratio-negative : (n d : ℤ) (m : ℕ) → m ≡ unsigned_abs d → d <ℤ pos 0 → ratio (neg_ℤ n) (pos m) ≡ ratio n d
+unfolding ratio
+ratio-negative n (pos k) m e h = absurd (not_below (pos k) h (omega (arith, ints)))
+ratio-negative n (negsuc k) m e h = rw e refl
 
 -- ---- `ratio z w` is z / w
 neg_neg : (z : ℤ) → neg_ℤ (neg_ℤ z) ≡ z

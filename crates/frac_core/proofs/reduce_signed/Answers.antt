@@ -1,7 +1,8 @@
 use Rattle.std.proofs.Common.{arith, neg_ℤ, refl, ap, ◌∙◌}
 use Rattle.std.proofs.lemmas.Int.{ints}
 use Rattle.ratios.specs.Range.{checked}
-use Rattle.frac_core.proofs.Reducing.{checked_as, ratio-negative}
+use Rattle.ratios.proofs.Parts.{ratio-negative}
+use Rattle.frac_core.proofs.Reducing.{checked_as}
 use Rattle.frac_core.proofs.reduce_signed.Goals as goal
 
 pub returns-then-d-lt0 : goal.returns-then-d-lt0

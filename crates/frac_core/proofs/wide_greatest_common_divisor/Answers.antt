@@ -1,0 +1,15 @@
+use Rattle.std.proofs.Common.{◌%◌, ◌∙◌}
+use Rattle.std.proofs.lemmas.Nat.Gcd.{IsGcd-from_zero, IsGcd-from_mod, same_from_IsGcd}
+use Rattle.ratios.specs.Gcd.{IsGcd-gcd}
+use Rattle.frac_core.proofs.wide_greatest_common_divisor.Goals as goal
+
+pub loop-y-preserved : goal.loop-y-preserved
+loop-y-preserved c g h = c.loop-y.invariant g (IsGcd-from_mod _ _ g h)
+
+pub returns-then-y-eq0 : goal.returns-then-y-eq0
+returns-then-y-eq0 c = same_from_IsGcd _ _ _ _ (c.loop-y.invariant _ (IsGcd-from_zero _ _ c.if-y-eq0.true)) (IsGcd-gcd _ _)
+
+pub returns : goal.returns
+returns c =
+    c.from.ensures ∙ c.greatest_common_divisor.ensures
+    ∙ same_from_IsGcd _ _ _ _ (c.loop-y.invariant _ (IsGcd-from_mod _ _ _ (IsGcd-gcd c.loop-y.y (c.loop-y.x % c.loop-y.y)))) (IsGcd-gcd _ _)
