@@ -18,6 +18,3 @@ pub use source::MemSource;
 pub use standard::{StdSink, StdSource};
 pub use std::alloc::AllocError as Memory;
 pub use sure::{SureNoise, SureSink, SureSource};
-
-#[cfg(test)]
-mod tests;

@@ -60,26 +60,3 @@ fn is_unknown(key: &str, known: &[&str]) -> bool
 pub fn law_keys_rise()
     ensures { KeysRise }
 {}
-
-#[cfg(test)]
-mod tests {
-    use super::*;
-    use serde_json::json;
-    use std::test::Fail;
-
-    #[test]
-    fn looks_into_an_object(rt: HostRuntime) -> Result<(), Fail> {
-        let value = json!(in rt.alloc(); {"b": ["x", "y"], "a": ["x", 1], "c": null})?;
-        let texts = value.get("b").and_then(list_of).ok_or("no list")?;
-        assert_eq!(rt; texts.len(), 2);
-        assert!(rt; are_texts(texts));
-        let mixed = value.get("a").and_then(list_of).ok_or("no list")?;
-        assert!(rt; !are_texts(mixed));
-        assert!(rt; value.get("c").and_then(list_of).is_none());
-        let members = value.as_object().ok_or("no object")?;
-        assert!(rt; unknown_key(members, &["b"]) == Some("a"));
-        assert!(rt; unknown_key(members, &["b", "a"]) == Some("c"));
-        assert!(rt; unknown_key(members, &["a", "b", "c"]).is_none());
-        Ok(())
-    }
-}

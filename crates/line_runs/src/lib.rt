@@ -6,6 +6,3 @@
 mod laws;
 
 pub use laws::{Machine, law_pieces, law_runs};
-
-#[cfg(test)]
-mod tests;

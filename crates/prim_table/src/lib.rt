@@ -7,8 +7,6 @@
 
 mod apply;
 mod tables;
-#[cfg(test)]
-mod tests;
 
 pub use apply::{apply1, apply2, apply3};
 pub use record_text::{Atom, Kind, Memory};

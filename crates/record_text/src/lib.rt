@@ -13,8 +13,6 @@ mod name;
 mod row;
 mod row_json;
 mod short_text;
-#[cfg(test)]
-mod tests;
 
 pub use atom::Atom;
 pub use field::{AtomFault, atom_from_field};

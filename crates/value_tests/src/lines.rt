@@ -1,6 +1,7 @@
+//! Tests of `line_runs`.
 ghost use Rattle.std.specs.Prelude.{◌≡◌, []};
 
-use crate::{Machine, law_pieces, law_runs};
+use line_runs::{Machine, law_pieces, law_runs};
 
 // A machine without a state of its own, which repeats each line.
 struct Echo;

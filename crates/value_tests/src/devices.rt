@@ -1,7 +1,8 @@
+//! Tests of `io_edge`.
 ghost use Rattle.std.specs.Prelude.{◌^◌, ◌<◌, ◌≤◌, length};
 ghost use Rattle.io_edge.specs.Path.{IsPath};
 
-use crate::{
+use io_edge::{
     Failed, MemShelf, MemSink, MemSource, Noise, Shelf, ShelfFault, Sink, Source, StdSink,
     StdSource, SureNoise, SureSink, SureSource,
 };
@@ -44,21 +45,26 @@ fn source_gives_pieces_and_fails_at_the_listed_call(rt: HostRuntime) -> Result<(
     let bytes = b"abc".to_vec(rt.alloc())?;
     let mut source = MemSource::new(bytes, 2, [1].to_vec(rt.alloc())?);
     let mut buf = [0; 4];
-    assert_eq!(rt; read(&mut source, &mut buf), Ok(2));
-    assert_eq!(rt; read(&mut source, &mut buf), Err(Failed));
-    assert_eq!(rt; buf, [97, 98, 0, 0]);
-    assert_eq!(rt; read(&mut source, &mut buf), Ok(1));
-    assert_eq!(rt; buf, [99, 98, 0, 0]);
-    assert_eq!(rt; read(&mut source, &mut buf), Ok(0));
+    let rows = [
+        (Ok(2), [97, 98, 0, 0]),
+        (Err(Failed), [97, 98, 0, 0]),
+        (Ok(1), [99, 98, 0, 0]),
+        (Ok(0), [99, 98, 0, 0]),
+    ];
+    for (count, front) in rows {
+        assert_eq!(rt; read(&mut source, &mut buf), count);
+        assert_eq!(rt; buf, front);
+    }
     Ok(())
 }
 
 #[test]
 fn sink_takes_pieces_and_fails_once_full(rt: HostRuntime) -> Result<(), Fail> {
     let mut sink = MemSink::new(rt.alloc(), 3, 2, Vec::new(rt.alloc()))?;
-    assert_eq!(rt; write(&mut sink, b"abcd"), Ok(2));
-    assert_eq!(rt; write(&mut sink, b"cd"), Ok(1));
-    assert_eq!(rt; write(&mut sink, b"d"), Err(Failed));
+    let rows = [(b"abc", Ok(2)), (b"cde", Ok(1)), (b"def", Err(Failed))];
+    for (piece, count) in rows {
+        assert_eq!(rt; write(&mut sink, piece), count);
+    }
     assert_eq!(rt; sink.bytes(), b"abc".as_slice());
     Ok(())
 }
@@ -67,29 +73,32 @@ fn sink_takes_pieces_and_fails_once_full(rt: HostRuntime) -> Result<(), Fail> {
 fn empty_shelf_misses_a_file(rt: HostRuntime) -> Result<(), Fail> {
     let mut shelf = MemShelf::new(rt.alloc());
     let mut into = b"old".to_vec(rt.alloc())?;
-    assert_eq!(rt;
-        fetch(&mut shelf, b"a", 10, &mut into),
-        Err(ShelfFault::Missing)
-    );
+    let answer = fetch(&mut shelf, b"a", 10, &mut into);
+    assert_eq!(rt; answer, Err(ShelfFault::Missing));
     assert_eq!(rt; into.len(), 0);
     Ok(())
 }
 
 #[test]
-fn sure_devices_never_fail(rt: HostRuntime) -> Result<(), Fail> {
+fn sure_source_gives_what_fits(rt: HostRuntime) -> Result<(), Fail> {
     let mut source = SureSource::new(b"abc".to_vec(rt.alloc())?);
     let mut buf = [0; 2];
-    assert_eq!(rt; read(&mut source, &mut buf), Ok(2));
-    assert_eq!(rt; buf, [97, 98]);
-    assert_eq!(rt; write(&mut SureSink::new(), b"abc"), Ok(3));
-    assert_eq!(rt; draw(&mut SureNoise::new(), 1), Ok(0));
+    for (count, front) in [(2, [97, 98]), (1, [99, 98]), (0, [99, 98])] {
+        assert_eq!(rt; read(&mut source, &mut buf), Ok(count));
+        assert_eq!(rt; buf, front);
+    }
     Ok(())
 }
 
 #[test]
+fn sure_sink_and_noise_never_fail(rt: HostRuntime) {
+    assert_eq!(rt; write(&mut SureSink::new(), b"abc"), Ok(3));
+    assert_eq!(rt; draw(&mut SureNoise::new(), 1), Ok(0));
+}
+
+#[test]
 fn standard_streams_are_adapted(rt: HostRuntime) {
-    let mut source = StdSource::new(rt.stdin());
     let mut buf = [0; 2];
-    assert!(rt; read(&mut source, &mut buf).is_ok());
+    assert!(rt; read(&mut StdSource::new(rt.stdin()), &mut buf).is_ok());
     assert_eq!(rt; write(&mut StdSink::new(rt.stdout()), b"\n"), Ok(1));
 }

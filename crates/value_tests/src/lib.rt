@@ -1,0 +1,17 @@
+//! Tests of the crates of values, texts and devices.
+#![tactic(auto)]
+
+#[cfg(test)]
+mod devices;
+#[cfg(test)]
+mod fields;
+#[cfg(test)]
+mod fractions;
+#[cfg(test)]
+mod lines;
+#[cfg(test)]
+mod orders;
+#[cfg(test)]
+mod primitives;
+#[cfg(test)]
+mod rows;
