@@ -1,8 +1,8 @@
 -- The parts of steps that are those of a plan, and of steps that pass their checks.
 use Rattle.std.specs.Prelude.{◌≡◌, ℕ, zero, suc, ◌+◌, ◌<◌, nat_le, Bool, true, List, [], ◌∷◌, ◌++◌, length, slice_get, Some, None, option_to_list}
 use Rattle.std.specs.List.{list_all}
-use Rattle.std.proofs.Common.{refl, sym, ◌∙◌, subst, arith}
-use Rattle.std.proofs.lemmas.Bool.{and_from, and_parts, leb-true}
+use Rattle.std.proofs.Common.{sym, ◌∙◌, subst, arith}
+use Rattle.std.proofs.lemmas.Bool.{and_parts, leb-true}
 use Rattle.std.proofs.lemmas.List.Folds.{list_all-append}
 use Rattle.record_text.specs.declared.kinds.Kind.{Kind}
 use Rattle.plan_model.specs.declared.expr.Expr.{Expr}
@@ -59,16 +59,6 @@ pub step_of_plan : (p : List Step) (i : ℕ) (s : Step) → slice_get p i ≡ So
 step_of_plan p i s at plan =
     let here : 0 + i ≡ i = omega arith in
     subst (λ n. is_step n s ≡ true) here (step_from 0 p i s at ((and_parts _ (are_steps 0 p) plan).1))
-
--- a step more
-pub are_steps_more : (from : ℕ) (ss : List Step) (s : Step) → are_steps from ss ≡ true → is_step (from + length ss) s ≡ true → are_steps from (ss ++ s ∷ []) ≡ true
-are_steps_more from [] s steps last =
-    let here : from + 0 ≡ from = omega arith in
-    and_from _ _ (subst (λ n. is_step n s ≡ true) here last) refl
-are_steps_more from (t ∷ ss) s steps last =
-    let parts = and_parts (is_step from t) (are_steps (from + 1) ss) steps in
-    let next : from + length (t ∷ ss) ≡ (from + 1) + length ss = omega arith in
-    and_from _ _ parts.0 (are_steps_more (from + 1) ss s parts.1 (subst (λ n. is_step n s ≡ true) next last))
 
 pub some_steps : (p : List Step) → is_plan p ≡ true → 0 < length p
 some_steps p plan = let few = (and_parts _ (are_steps 0 p) plan).0 in leb-true 1 (length p) ((and_parts (nat_le 1 (length p)) _ few).0)

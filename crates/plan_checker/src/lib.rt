@@ -12,8 +12,6 @@ mod exprs;
 mod items;
 mod made;
 mod places;
-#[cfg(test)]
-mod tests;
 mod walk;
 
 pub use checked::Checked;

@@ -10,8 +10,6 @@ mod lists;
 mod plan;
 mod source_types;
 mod step;
-#[cfg(test)]
-mod tests;
 
 pub use expr::{Expr, ExprFault};
 pub use laws::{law_typed, law_values};

@@ -7,8 +7,6 @@ mod fault;
 mod fields;
 mod plan;
 mod step;
-#[cfg(test)]
-mod tests;
 mod write;
 
 pub use fault::{Field, Limit, PlanText};

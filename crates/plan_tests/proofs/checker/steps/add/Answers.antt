@@ -1,7 +1,7 @@
 use Rattle.std.proofs.Common.{◌≡◌, ◌+◌, true, arith, length, subst, sym}
 use Rattle.plan_model.specs.Limits.{are_steps, is_step}
-use Rattle.plan_checker.proofs.Parts.{are_steps_more}
-use Rattle.plan_checker.proofs.tests.steps.add.Goals as goal
+use Rattle.plan_tests.proofs.Steps.{are_steps_more}
+use Rattle.plan_tests.proofs.checker.steps.add.Goals as goal
 
 pub returns-clause-steps : goal.returns-clause-steps
 returns-clause-steps c =

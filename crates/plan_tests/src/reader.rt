@@ -1,8 +1,12 @@
-//! Tests of what no contract says: that calls succeed, and that the definitions say what is meant.
+//! Tests of `plan_reader`.
+ghost use Rattle.std.specs.Prelude.{IsTrue};
+ghost use Rattle.plan_reader.specs.Plans.{is_built};
 
-use crate::{Field, Limit, PlanText, plan_to_json, read_plan};
+use crate::texts::{added, listed, negated, plan, tree, with_step, with_test};
+use plan_model::Plan;
+use plan_reader::{Field, Limit, PlanText, plan_to_json, read_plan};
 use serde_json::Value;
-use std::alloc::{AllocError, Global};
+use std::alloc::Global;
 use std::test::Fail;
 
 // Why a text is no plan, or nothing where it is one.
@@ -13,48 +17,14 @@ fn fault(alloc: Global, text: &str) -> Result<Option<PlanText>, Fail> {
 
 // Why a source and this step are no plan.
 fn step_fault(alloc: Global, step: &str) -> Result<Option<PlanText>, Fail> {
-    let text = format!(in alloc;
-        "{{\"format\":1,\"steps\":[{{\"do\":\"source\",\"name\":\"a\"}},{step}]}}"
-    )?;
+    let text = with_step(alloc, step)?;
     fault(alloc, text.as_str())
 }
 
 // Why this is no test of a step.
 fn test_fault(alloc: Global, test: &str) -> Result<Option<PlanText>, Fail> {
-    let step = format!(in alloc; "{{\"do\":\"where\",\"of\":0,\"if\":{test}}}")?;
-    step_fault(alloc, step.as_str())
-}
-
-// A text so often, with commas between.
-fn listed(alloc: Global, text: &str, times: usize) -> Result<String, AllocError> {
-    let mut list = String::from_str(alloc, text)?;
-    for _ in 1..times {
-        list.push(',')?;
-        list.push_str(text)?;
-    }
-    Ok(list)
-}
-
-// So many negations of an expression.
-fn negated(alloc: Global, times: usize, expr: &str) -> Result<String, AllocError> {
-    let mut text = String::from_str(alloc, expr)?;
-    for _ in 0..times {
-        text = format!(in alloc; "{{\"call\":\"neg\",\"args\":[{text}]}}")?;
-    }
-    Ok(text)
-}
-
-fn added(alloc: Global, left: &str, right: &str) -> Result<String, AllocError> {
-    format!(in alloc; "{{\"call\":\"add\",\"args\":[{left},{right}]}}")
-}
-
-// An expression so deep, each of whose sums has two such arguments: 1, 3, 7, .. nodes.
-fn tree(alloc: Global, depth: usize) -> Result<String, AllocError> {
-    let mut text = String::from_str(alloc, "{\"col\":0}")?;
-    for _ in 1..depth {
-        text = added(alloc, text.as_str(), text.as_str())?;
-    }
-    Ok(text)
+    let text = with_test(alloc, test)?;
+    fault(alloc, text.as_str())
 }
 
 fn shape(step: usize, field: Field) -> Option<PlanText> {
@@ -63,6 +33,42 @@ fn shape(step: usize, field: Field) -> Option<PlanText> {
 
 fn over(step: usize, limit: Limit) -> Option<PlanText> {
     Some(PlanText::Over { step, limit })
+}
+
+type Row = (&'static str, Field);
+
+// The first text that isn't refused for the field beside it.
+fn first_taken_plan(alloc: Global, rows: &[Row]) -> Result<Option<&'static str>, Fail> {
+    for (text, field) in rows {
+        if fault(alloc, text)? != shape(0, *field) {
+            return Ok(Some(*text));
+        }
+    }
+    Ok(None)
+}
+
+// The first second step that isn't refused for the field beside it.
+fn first_taken_step(alloc: Global, rows: &[Row]) -> Result<Option<&'static str>, Fail> {
+    for (text, field) in rows {
+        if step_fault(alloc, text)? != shape(1, *field) {
+            return Ok(Some(*text));
+        }
+    }
+    Ok(None)
+}
+
+// The first test that isn't answered so.
+fn first_other_test(
+    alloc: Global,
+    tests: &[&'static str],
+    expected: Option<PlanText>,
+) -> Result<Option<&'static str>, Fail> {
+    for test in tests {
+        if test_fault(alloc, test)? != expected {
+            return Ok(Some(*test));
+        }
+    }
+    Ok(None)
 }
 
 #[test]
@@ -108,13 +114,7 @@ fn names_the_first_fault_of_a_plan(rt: HostRuntime) -> Result<(), Fail> {
             Field::Of,
         ),
     ];
-    for (text, field) in rows {
-        assert_eq!(rt; fault(rt.alloc(), text)?, shape(0, field), "{text}");
-    }
-    assert_eq!(rt;
-        step_fault(rt.alloc(), "{\"do\":\"source\",\"name\":\"b\"}")?,
-        None
-    );
+    assert_eq!(rt; first_taken_plan(rt.alloc(), &rows)?, None);
     Ok(())
 }
 
@@ -159,9 +159,7 @@ fn names_the_first_fault_of_a_step(rt: HostRuntime) -> Result<(), Fail> {
             Field::Other,
         ),
     ];
-    for (step, field) in rows {
-        assert_eq!(rt; step_fault(rt.alloc(), step)?, shape(1, field), "{step}");
-    }
+    assert_eq!(rt; first_taken_step(rt.alloc(), &rows)?, None);
     Ok(())
 }
 
@@ -193,13 +191,8 @@ fn refuses_what_has_no_form(rt: HostRuntime) -> Result<(), Fail> {
         "{\"call\":\"neg\",\"args\":[{\"col\":256}]}",
         "{\"call\":\"add\",\"args\":[{\"col\":0},7]}",
     ];
-    for test in rows {
-        assert_eq!(rt;
-            test_fault(rt.alloc(), test)?,
-            shape(1, Field::If),
-            "{test}"
-        );
-    }
+    let refused = shape(1, Field::If);
+    assert_eq!(rt; first_other_test(rt.alloc(), &rows, refused)?, None);
     Ok(())
 }
 
@@ -212,39 +205,62 @@ fn takes_each_form(rt: HostRuntime) -> Result<(), Fail> {
         "{\"args\":[{\"text\":\"a\"}],\"call\":\"len\"}",
         "{\"call\":\"pick\",\"args\":[{\"col\":0},{\"int\":1},{\"int\":2}]}",
     ];
-    for test in taken {
-        assert_eq!(rt; test_fault(rt.alloc(), test)?, None, "{test}");
-    }
+    assert_eq!(rt; first_other_test(rt.alloc(), &taken, None)?, None);
     Ok(())
+}
+
+// Why a text of so many letters is no test.
+fn letters_fault(alloc: Global, count: usize) -> Result<Option<PlanText>, Fail> {
+    let mut text = String::from_str(alloc, "{\"text\":\"")?;
+    for _ in 0..count {
+        text.push('a')?;
+    }
+    text.push_str("\"}")?;
+    test_fault(alloc, text.as_str())
 }
 
 #[test]
 fn limits_a_text(rt: HostRuntime) -> Result<(), Fail> {
-    let mut text = String::new(rt.alloc());
-    for _ in 0..255 {
-        text.push('a')?;
-    }
-    let most = format!(in rt.alloc(); "{{\"text\":\"{text}\"}}")?;
-    assert_eq!(rt; test_fault(rt.alloc(), most.as_str())?, None);
-    let long = format!(in rt.alloc(); "{{\"text\":\"{text}a\"}}")?;
-    assert_eq!(rt; test_fault(rt.alloc(), long.as_str())?, shape(1, Field::If));
+    assert_eq!(rt; letters_fault(rt.alloc(), 255)?, None);
+    assert_eq!(rt; letters_fault(rt.alloc(), 256)?, shape(1, Field::If));
     Ok(())
 }
 
+// Why so many of these expressions are no row.
+fn row_fault(alloc: Global, expr: &str, times: usize) -> Result<Option<PlanText>, Fail> {
+    let list = listed(alloc, expr, times)?;
+    let step = format!(in alloc; "{{\"do\":\"select\",\"of\":0,\"row\":[{list}]}}")?;
+    step_fault(alloc, step.as_str())
+}
+
 #[test]
-fn limits_lists_and_steps(rt: HostRuntime) -> Result<(), Fail> {
-    let column = "{\"col\":0}";
+fn limits_a_list(rt: HostRuntime) -> Result<(), Fail> {
     let rows = [
-        (column, 16, None),
-        (column, 17, over(1, Limit::Width)),
+        ("{\"col\":0}", 16, None),
+        ("{\"col\":0}", 17, over(1, Limit::Width)),
         ("7", 16, shape(1, Field::Row)),
         ("7", 17, over(1, Limit::Width)),
     ];
     for (expr, times, expected) in rows {
-        let list = listed(rt.alloc(), expr, times)?;
-        let step = format!(in rt.alloc(); "{{\"do\":\"select\",\"of\":0,\"row\":[{list}]}}")?;
-        assert_eq!(rt; step_fault(rt.alloc(), step.as_str())?, expected, "{step}");
+        assert!(rt; row_fault(rt.alloc(), expr, times)? == expected);
     }
+    Ok(())
+}
+
+// Why a plan of so many of these steps, with further fields, is none.
+fn steps_fault(
+    alloc: Global,
+    step: &str,
+    times: usize,
+    rest: &str,
+) -> Result<Option<PlanText>, Fail> {
+    let list = listed(alloc, step, times)?;
+    let text = format!(in alloc; "{{\"format\":1,\"steps\":[{list}]{rest}}}")?;
+    fault(alloc, text.as_str())
+}
+
+#[test]
+fn limits_the_steps(rt: HostRuntime) -> Result<(), Fail> {
     let source = "{\"do\":\"source\",\"name\":\"a\"}";
     let rows = [
         (source, 64, "", None),
@@ -253,11 +269,15 @@ fn limits_lists_and_steps(rt: HostRuntime) -> Result<(), Fail> {
         ("7", 65, ",\"a\":0", shape(0, Field::Other)),
     ];
     for (step, times, rest, expected) in rows {
-        let list = listed(rt.alloc(), step, times)?;
-        let text = format!(in rt.alloc(); "{{\"format\":1,\"steps\":[{list}]{rest}}}")?;
-        assert_eq!(rt; fault(rt.alloc(), text.as_str())?, expected, "{text}");
+        assert!(rt; steps_fault(rt.alloc(), step, times, rest)? == expected);
     }
     Ok(())
+}
+
+// Why so many negations of an expression are no test.
+fn negated_fault(alloc: Global, expr: &str, times: usize) -> Result<Option<PlanText>, Fail> {
+    let test = negated(alloc, times, expr)?;
+    test_fault(alloc, test.as_str())
 }
 
 #[test]
@@ -269,48 +289,87 @@ fn limits_the_depth_of_an_expression(rt: HostRuntime) -> Result<(), Fail> {
         ("7", 16, over(1, Limit::Depth)),
     ];
     for (expr, times, expected) in rows {
-        let test = negated(rt.alloc(), times, expr)?;
-        assert_eq!(rt; test_fault(rt.alloc(), test.as_str())?, expected, "{test}");
+        assert!(rt; negated_fault(rt.alloc(), expr, times)? == expected);
     }
     Ok(())
+}
+
+// Why so many negations of a tree of 255 nodes are no test.
+fn full_fault(alloc: Global, times: usize) -> Result<Option<PlanText>, Fail> {
+    let full = tree(alloc, 8)?;
+    negated_fault(alloc, full.as_str(), times)
+}
+
+// Why the sum of such a tree and of what has no form, in this or the other order, is no test.
+fn sum_fault(alloc: Global, full_first: bool) -> Result<Option<PlanText>, Fail> {
+    let full = tree(alloc, 8)?;
+    let sum = if full_first {
+        added(alloc, full.as_str(), "7")?
+    } else {
+        added(alloc, "7", full.as_str())?
+    };
+    test_fault(alloc, sum.as_str())
+}
+
+// Why two expressions of 256 nodes are no row.
+fn two_full_fault(alloc: Global) -> Result<Option<PlanText>, Fail> {
+    let full = tree(alloc, 8)?;
+    let most = negated(alloc, 1, full.as_str())?;
+    row_fault(alloc, most.as_str(), 2)
 }
 
 #[test]
 fn limits_the_nodes_of_an_expression(rt: HostRuntime) -> Result<(), Fail> {
-    let full = tree(rt.alloc(), 8)?;
-    let most = negated(rt.alloc(), 1, full.as_str())?;
-    assert_eq!(rt; test_fault(rt.alloc(), most.as_str())?, None);
-    let more = negated(rt.alloc(), 2, full.as_str())?;
-    assert_eq!(rt;
-        test_fault(rt.alloc(), more.as_str())?,
-        over(1, Limit::Nodes)
-    );
-    let last = added(rt.alloc(), full.as_str(), "7")?;
-    assert_eq!(rt;
-        test_fault(rt.alloc(), last.as_str())?,
-        over(1, Limit::Nodes)
-    );
-    let both = added(rt.alloc(), "7", full.as_str())?;
-    assert_eq!(rt; test_fault(rt.alloc(), both.as_str())?, shape(1, Field::If));
-    let step = format!(in rt.alloc(); "{{\"do\":\"select\",\"of\":0,\"row\":[{most},{most}]}}")?;
-    assert_eq!(rt; step_fault(rt.alloc(), step.as_str())?, None);
+    assert!(rt; full_fault(rt.alloc(), 1)? == None);
+    assert!(rt; full_fault(rt.alloc(), 2)? == over(1, Limit::Nodes));
+    assert!(rt; sum_fault(rt.alloc(), true)? == over(1, Limit::Nodes));
+    assert!(rt; sum_fault(rt.alloc(), false)? == shape(1, Field::If));
+    assert!(rt; two_full_fault(rt.alloc())? == None);
     Ok(())
+}
+
+// The sum of a tree of so many levels and of an expression.
+fn with_tree(alloc: Global, depth: usize, expr: &str) -> Result<String, Fail> {
+    let tree = tree(alloc, depth)?;
+    Ok(added(alloc, tree.as_str(), expr)?)
+}
+
+// An expression of 240 nodes.
+fn nearly_full(alloc: Global) -> Result<String, Fail> {
+    let small = tree(alloc, 4)?;
+    let small = with_tree(alloc, 5, small.as_str())?;
+    let middle = with_tree(alloc, 6, small.as_str())?;
+    let middle = negated(alloc, 1, middle.as_str())?;
+    with_tree(alloc, 7, middle.as_str())
+}
+
+// Why the sum of this expression and of so many negations is no test.
+fn nearly_full_fault(alloc: Global, times: usize) -> Result<Option<PlanText>, Fail> {
+    let left = nearly_full(alloc)?;
+    let right = negated(alloc, times, "{\"col\":0}")?;
+    let sum = added(alloc, left.as_str(), right.as_str())?;
+    test_fault(alloc, sum.as_str())
 }
 
 #[test]
 fn tests_the_depth_before_the_nodes(rt: HostRuntime) -> Result<(), Fail> {
-    let alloc = rt.alloc();
-    let small = added(alloc, tree(alloc, 5)?.as_str(), tree(alloc, 4)?.as_str())?;
-    let middle = added(alloc, tree(alloc, 6)?.as_str(), small.as_str())?;
-    let middle = negated(alloc, 1, middle.as_str())?;
-    let left = added(alloc, tree(alloc, 7)?.as_str(), middle.as_str())?;
-    let rows = [(14, None), (15, over(1, Limit::Depth))];
-    for (times, expected) in rows {
-        let right = negated(alloc, times, "{\"col\":0}")?;
-        let test = added(alloc, left.as_str(), right.as_str())?;
-        assert_eq!(rt; test_fault(alloc, test.as_str())?, expected, "{times}");
-    }
+    assert!(rt; nearly_full_fault(rt.alloc(), 14)? == None);
+    assert!(rt; nearly_full_fault(rt.alloc(), 15)? == over(1, Limit::Depth));
     Ok(())
+}
+
+// The text that a plan is written as, which is read again.
+fn written(alloc: Global, plan: &Plan) -> Result<String, Fail>
+    requires { IsTrue (is_built plan.now) }
+{
+    let value = plan_to_json(alloc, plan)?;
+    read_plan(alloc, &value)?;
+    Ok(value.to_string(alloc)?)
+}
+
+fn read_and_written(alloc: Global, text: &str) -> Result<String, Fail> {
+    let plan = plan(alloc, text)?;
+    written(alloc, &plan)
 }
 
 #[test]
@@ -320,11 +379,6 @@ fn writes_what_it_reads(rt: HostRuntime) -> Result<(), Fail> {
         {\"do\":\"select\",\"of\":1,\"row\":[{\"args\":[{\"text\":\"a \\\"b\\\" ż\"}],\"call\":\"len\"},\
         {\"args\":[{\"int\":9223372036854775807},{\"int\":0},{\"col\":0}],\"call\":\"pick\"}]},\
         {\"do\":\"where\",\"if\":{\"text\":\"\"},\"of\":2}]}";
-    let value = Value::from_str(rt.alloc(), text)?;
-    let plan = read_plan(rt.alloc(), &value)?;
-    assert_eq!(rt; plan.len(), 4);
-    let written = plan_to_json(rt.alloc(), &plan)?;
-    assert_eq!(rt; written.to_string(rt.alloc())?.as_str(), text);
-    assert_eq!(rt; read_plan(rt.alloc(), &written).err(), None);
+    assert_eq!(rt; read_and_written(rt.alloc(), text)?.as_str(), text);
     Ok(())
 }

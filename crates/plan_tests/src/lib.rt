@@ -1,0 +1,12 @@
+//! Tests of the crates of plans: of what no contract says, that calls succeed, and that the definitions say what
+//! is meant.
+#![tactic(auto)]
+
+#[cfg(test)]
+mod checker;
+#[cfg(test)]
+mod model;
+#[cfg(test)]
+mod reader;
+#[cfg(test)]
+mod texts;
