@@ -9,4 +9,3 @@ pub mod FreshGraphs
 pub mod Turning
 pub mod Building
 pub mod DeclaredLater
-pub mod Trials

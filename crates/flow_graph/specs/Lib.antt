@@ -5,4 +5,3 @@ pub mod Steps
 pub mod Graphs
 pub mod Fresh
 pub mod PlanGraphs
-pub mod Trials

@@ -67,7 +67,7 @@ impl<N: Operator> FlowGraphOf<N> {
 
     /// Puts all rows of the sources in a graph whose sources have none. `Range` names the first step that doesn't
     /// fit. Nothing is pending.
-    pub fn fill<L: Ledger>(
+    pub(crate) fn fill<L: Ledger>(
         &mut self,
         sources: &SourceSet,
         steps: &mut Steps<L>,

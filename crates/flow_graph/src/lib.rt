@@ -11,8 +11,6 @@ mod keyed;
 mod node;
 mod outputs;
 mod rows;
-#[cfg(test)]
-mod tests;
 mod whole;
 
 pub use dataflow::GraphFault;

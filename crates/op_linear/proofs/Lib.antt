@@ -2,4 +2,3 @@ mod ListedKeys
 mod RunningSums
 mod MadeRows
 mod SelectOutputs
-mod ListedParts

@@ -7,8 +7,6 @@
 mod filter;
 mod lists;
 mod select;
-#[cfg(test)]
-mod tests;
 
 pub use filter::FilterOp;
 pub use select::SelectOp;

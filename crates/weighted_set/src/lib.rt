@@ -13,10 +13,6 @@ mod part_op;
 mod part_store;
 mod set;
 mod source_set;
-#[cfg(test)]
-mod store_tests;
-#[cfg(test)]
-mod tests;
 mod weighted;
 mod wset;
 

@@ -1,0 +1,2 @@
+pub mod ListedParts
+pub mod Trials

@@ -1,4 +1,0 @@
-use Rattle.weighted_set.proofs.store_tests.parts_are_changed_by_key.Given as goal
-
-abbrev pub ghosts-change_parts : goal.ghosts-change_parts
-ghosts-change_parts g a = record { name = a.blank.name; parts = a.blank.parts }
