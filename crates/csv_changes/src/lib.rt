@@ -4,8 +4,6 @@
 
 mod changes;
 mod fault;
-#[cfg(test)]
-mod tests;
 
 pub use changes::{Added, read_changes};
 pub use fault::{CsvFault, CsvWhat};

@@ -10,8 +10,6 @@ mod read;
 mod refusal;
 mod refused;
 mod request;
-#[cfg(test)]
-mod tests_lines;
 mod write;
 
 pub use csv_changes::{Added, CsvFault, CsvWhat, read_changes};

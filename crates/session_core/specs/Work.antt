@@ -1,5 +1,5 @@
 -- Which requests read or write what plans keep.
-use Rattle.std.specs.Prelude.{Bool, true, false, Result, Ok, Err}
+use Rattle.std.specs.Prelude.{Bool, true, false, Result, Ok}
 use Rattle.request_text.specs.declared.refusal.Refusal.{Refusal}
 use Rattle.request_text.specs.declared.request.Request.{Request}
 use Rattle.request_text.specs.declared.request.Request.TheVariants as request

@@ -10,8 +10,6 @@ mod parts;
 mod plans;
 mod session;
 mod sources;
-#[cfg(test)]
-mod tests;
 mod update;
 
 pub use laws::law_replies;
