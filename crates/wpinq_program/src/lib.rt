@@ -8,8 +8,6 @@ mod line_buffer;
 mod output;
 mod responder;
 mod stream;
-#[cfg(test)]
-mod tests;
 mod top;
 mod words;
 

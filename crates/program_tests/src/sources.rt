@@ -1,9 +1,10 @@
 //! Sessions with sources: lines in one run, each with its reply.
-use super::{answer_under, words};
-use crate::Ending;
+
+use crate::runs::answer;
 use std::alloc::Global;
 use std::process::Abort;
 use std::test::Fail;
+use wpinq_program::Ending;
 
 /// Two sources with a few rows.
 const OPENING: [(&str, &str); 4] = [
@@ -29,7 +30,7 @@ const OPENING: [(&str, &str); 4] = [
 pub fn converse(
     rt: &impl Abort,
     alloc: Global,
-    texts: &[&str],
+    words: &[&str],
     rows: &[(&str, &str)],
 ) -> Result<(), Fail> {
     let mut input = String::new(alloc);
@@ -41,9 +42,7 @@ pub fn converse(
         replies.push_str(reply)?;
         replies.push('\n')?;
     }
-    let words = words(alloc, texts)?;
-    let (ending, written) = answer_under(alloc, &words, input.as_str(), 64)?;
-    let written = String::from_utf8(written)?;
+    let (ending, written) = answer(alloc, words, input.as_str(), 64)?;
     assert_eq!(rt; written.as_str(), replies.as_str());
     assert_eq!(rt; ending, Ending { status: 0, lines });
     Ok(())
@@ -188,62 +187,61 @@ fn a_source_may_be_signed_and_its_name_is_its_own(rt: HostRuntime) -> Result<(),
     converse(&rt, rt.alloc(), &["--curator"], &rows)
 }
 
+/// Lines with a number from 0 on between two texts.
+pub fn numbered(alloc: Global, count: u64, before: &str, after: &str) -> Result<String, Fail> {
+    let mut lines = String::new(alloc);
+    for at in 0..count {
+        let line = format!(in alloc; "{before}{at}{after}\n")?;
+        lines.push_str(line.as_str())?;
+    }
+    Ok(lines)
+}
+
+/// A line so many times.
+pub fn repeated(alloc: Global, count: u64, line: &str) -> Result<String, Fail> {
+    let mut lines = String::new(alloc);
+    for _ in 0..count {
+        lines.push_str(line)?;
+        lines.push('\n')?;
+    }
+    Ok(lines)
+}
+
 #[test]
 fn sixteen_sources_are_the_most(rt: HostRuntime) -> Result<(), Fail> {
     let alloc = rt.alloc();
-    let mut input = String::new(alloc);
-    let mut replies = String::new(alloc);
-    for source in 0..17 {
-        let line = format!(in alloc;
-            "{{\"op\":\"source\",\"name\":\"s{source}\",\"kinds\":[\"int\"],\"signed\":false,\"budget\":0}}\n"
-        )?;
-        input.push_str(line.as_str())?;
-        if source < 16 {
-            replies.push_str("{\"ok\":true}\n")?;
-        }
-    }
+    let before = r#"{"op":"source","name":"s"#;
+    let after = r#"","kinds":["int"],"signed":false,"budget":0}"#;
+    let input = numbered(alloc, 17, before, after)?;
+    let mut replies = repeated(alloc, 16, r#"{"ok":true}"#)?;
     replies.push_str("{\"ok\":false,\"what\":\"source\",\"why\":\"full\"}\n")?;
-    let (ending, written) = answer_under(alloc, &[], input.as_str(), 64)?;
-    let written = String::from_utf8(written)?;
+    let (ending, written) = answer(alloc, &[], input.as_str(), 64)?;
     assert_eq!(rt; written.as_str(), replies.as_str());
-    assert_eq!(rt;
-        ending,
-        Ending {
-            status: 0,
-            lines: 17
-        }
-    );
+    assert_eq!(rt; (ending.status, ending.lines), (0, 17));
     Ok(())
 }
 
-/// A hundred thousand records in one line: row k has the weight k mod 9 + 1.
-#[test]
-fn a_large_update_is_answered(rt: HostRuntime) -> Result<(), Fail> {
-    let alloc = rt.alloc();
-    let mut input = String::from_str(
-        alloc,
-        "{\"op\":\"source\",\"name\":\"a\",\"kinds\":[\"int\"],\"signed\":false,\"budget\":0}\n{\"op\":\"update\",\"source\":\"a\",\"csv\":\"",
-    )?;
-    for row in 0..100_000 {
+/// The CSV text, as a JSON text has it, of so many records: row k has the weight k mod 9 + 1.
+fn records(alloc: Global, count: u64) -> Result<String, Fail> {
+    let mut csv = String::new(alloc);
+    for row in 0..count {
         let record = format!(in alloc; "{row},{}\\n", row % 9 + 1)?;
-        input.push_str(record.as_str())?;
+        csv.push_str(record.as_str())?;
     }
-    input.push_str(
-        "\"}\n{\"op\":\"exact\",\"source\":\"a\",\"rows\":[[0],[12345],[99999],[100000]]}\n",
+    Ok(csv)
+}
+
+#[test]
+fn an_update_of_100000_records_is_answered(rt: HostRuntime) -> Result<(), Fail> {
+    let csv = records(rt.alloc(), 100_000)?;
+    let input = format!(in rt.alloc();
+        "{{\"op\":\"source\",\"name\":\"a\",\"kinds\":[\"int\"],\"signed\":false,\"budget\":0}}\n{{\"op\":\"update\",\"source\":\"a\",\"csv\":\"{csv}\"}}\n{{\"op\":\"exact\",\"source\":\"a\",\"rows\":[[0],[12345],[99999],[100000]]}}\n"
     )?;
-    let words = words(alloc, &["--curator"])?;
-    let (ending, written) = answer_under(alloc, &words, input.as_str(), 65_536)?;
-    let written = String::from_utf8(written)?;
+    let (ending, written) = answer(rt.alloc(), &["--curator"], input.as_str(), 65_536)?;
     assert_eq!(rt;
         written.as_str(),
         "{\"ok\":true}\n{\"ok\":true,\"records\":100000}\n{\"ok\":true,\"weights\":[\"1\",\"7\",\"1\",\"0\"]}\n"
     );
-    assert_eq!(rt;
-        ending,
-        Ending {
-            status: 0,
-            lines: 3
-        }
-    );
+    assert_eq!(rt; (ending.status, ending.lines), (0, 3));
     Ok(())
 }

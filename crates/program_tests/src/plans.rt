@@ -1,7 +1,7 @@
 //! Sessions with plans: lines in one run, each with its reply.
-use super::answer_under;
-use super::sources::converse;
-use crate::Ending;
+
+use crate::runs::answer;
+use crate::sources::{converse, numbered, repeated};
 use std::test::Fail;
 
 #[test]
@@ -253,30 +253,18 @@ fn a_dropped_plan_is_gone_and_the_others_keep_their_order(rt: HostRuntime) -> Re
 #[test]
 fn thirty_two_plans_are_the_most(rt: HostRuntime) -> Result<(), Fail> {
     let alloc = rt.alloc();
-    let mut input = String::from_str(
-        alloc,
-        "{\"op\":\"source\",\"name\":\"s\",\"kinds\":[\"int\"],\"signed\":false,\"budget\":0}\n",
+    let before = r#"{"op":"plan","name":"p"#;
+    let after = r#"","plan":{"format":1,"steps":[{"do":"source","name":"s"}]}}"#;
+    let plans = numbered(alloc, 33, before, after)?;
+    let input = format!(in alloc;
+        "{{\"op\":\"source\",\"name\":\"s\",\"kinds\":[\"int\"],\"signed\":false,\"budget\":0}}\n{plans}"
     )?;
-    let mut replies = String::from_str(alloc, "{\"ok\":true}\n")?;
-    for plan in 0..33 {
-        let line = format!(in alloc;
-            "{{\"op\":\"plan\",\"name\":\"p{plan}\",\"plan\":{{\"format\":1,\"steps\":[{{\"do\":\"source\",\"name\":\"s\"}}]}}}}\n"
-        )?;
-        input.push_str(line.as_str())?;
-        if plan < 32 {
-            replies.push_str("{\"cols\":[\"int\"],\"ok\":true,\"uses\":[[\"s\",1]]}\n")?;
-        }
-    }
-    replies.push_str("{\"ok\":false,\"what\":\"plan\",\"why\":\"full\"}\n")?;
-    let (ending, written) = answer_under(alloc, &[], input.as_str(), 64)?;
-    let written = String::from_utf8(written)?;
+    let planned = repeated(alloc, 32, r#"{"cols":["int"],"ok":true,"uses":[["s",1]]}"#)?;
+    let replies = format!(in alloc;
+        "{{\"ok\":true}}\n{planned}{{\"ok\":false,\"what\":\"plan\",\"why\":\"full\"}}\n"
+    )?;
+    let (ending, written) = answer(alloc, &[], input.as_str(), 64)?;
     assert_eq!(rt; written.as_str(), replies.as_str());
-    assert_eq!(rt;
-        ending,
-        Ending {
-            status: 0,
-            lines: 34
-        }
-    );
+    assert_eq!(rt; (ending.status, ending.lines), (0, 34));
     Ok(())
 }

@@ -1,0 +1,9 @@
+//! Tests of the top call: runs and sessions over devices in memory.
+#![tactic(auto)]
+
+#[cfg(test)]
+mod plans;
+#[cfg(test)]
+mod runs;
+#[cfg(test)]
+mod sources;
