@@ -116,6 +116,18 @@ impl Items {
     {
         &self.list[i]
     }
+
+    /// Equal items.
+    pub fn try_copy(&self, alloc: Global) -> Result<Items, Memory>
+        ensures { IfOk result (λ copy. copy ≡ self.now) }
+    {
+        let mut list = Vec::with_capacity(alloc, self.list.len())?;
+        for item in self.list.as_slice() {
+            let copy = item.try_copy(alloc)?;
+            list.push(copy)?;
+        }
+        Ok(Items { list })
+    }
 }
 
 /// One run or more, with at most 4,096 pieces together, seen as their list.
@@ -154,6 +166,7 @@ impl Runs {
     pub fn len(&self) -> usize
         ensures value { result ≡ length self.now }
         ensures some { 0 < result }
+        ensures few { piece_count self.now ≤ 4096 }
     {
         self.list.len()
     }
@@ -164,5 +177,14 @@ impl Runs {
         ensures { slice_get self.now i ≡ Some result.now }
     {
         &self.list[i]
+    }
+
+    /// Equal runs.
+    pub fn try_copy(&self, alloc: Global) -> Result<Runs, Memory>
+        ensures { IfOk result (λ copy. copy ≡ self.now) }
+    {
+        let mut list = Vec::with_capacity(alloc, self.list.len())?;
+        list.extend_from_slice(self.list.as_slice())?;
+        Ok(Runs { list })
     }
 }

@@ -1,8 +1,11 @@
 //! Steps of plans, and their parts.
+ghost use Rattle.std.specs.Prelude.{◌≡◌, IfOk};
+
 use crate::expr::Expr;
 use crate::lists::{Exprs, Items, Runs};
 use frac_core::Frac;
-use record_text::Name;
+use record_text::{Memory, Name};
+use std::alloc::Global;
 
 /// What a row that passes the guard gives: a row, with a weight of at most 1,048,576.
 #[derive(Debug, Drop)]
@@ -10,6 +13,24 @@ pub struct Item {
     pub weight: u32,
     pub guard: Option<Expr>,
     pub row: Exprs,
+}
+
+impl Item {
+    /// An equal item.
+    pub fn try_copy(&self, alloc: Global) -> Result<Item, Memory>
+        ensures { IfOk result (λ copy. copy ≡ self.now) }
+    {
+        let guard = match &self.guard {
+            Some(test) => Some(test.try_copy(alloc)?),
+            None => None,
+        };
+        let row = self.row.try_copy(alloc)?;
+        Ok(Item {
+            weight: self.weight,
+            guard,
+            row,
+        })
+    }
 }
 
 /// So many pieces of one weight, which is above 0.
