@@ -8,17 +8,18 @@ use Rattle.json_fields.specs.Walk.{each}
 use Rattle.plan_model.specs.declared.step.Step.{Step}
 use Rattle.plan_model.specs.declared.step.Step.TheVariants as step
 use Rattle.plan_model.specs.Limits.{is_step, are_steps, is_plan}
-use Rattle.plan_reader.specs.declared.fault.Field.TheVariants as field
-use Rattle.plan_reader.specs.declared.fault.Place.{Place}
+use Rattle.expr_text.specs.declared.fault.Field.TheVariants as field
+use Rattle.expr_text.specs.declared.fault.Place.{Place}
 use Rattle.plan_reader.specs.declared.step.StepKind.{StepKind}
 use Rattle.plan_reader.specs.declared.step.StepKind.TheVariants as kind
-use Rattle.plan_reader.specs.Fields.{place, or_shape, no_other, name_in, of_in, earlier, whole_of}
-use Rattle.plan_reader.specs.Exprs.{expr_in, exprs_in}
+use Rattle.expr_text.specs.Fields.{place, or_shape}
+use Rattle.plan_reader.specs.Fields.{no_other, name_in, of_in, earlier, whole_of}
+use Rattle.expr_text.specs.Exprs.{expr_in, exprs_in}
 use Rattle.plan_reader.specs.Steps.{kind_of, step_fields, source_in, where_in, select_in, fields_in, step_in, is_built_step}
 use Rattle.plan_reader.specs.Plans.{is_built}
 use Rattle.json_fields.proofs.Walks.{both_steps}
-use Rattle.plan_reader.proofs.Walks.{length-each}
-use Rattle.plan_reader.proofs.WithinLimits.{is_expr-expr_in, are_exprs-exprs_in}
+use Rattle.expr_text.proofs.Walks.{length-each}
+use Rattle.expr_text.proofs.WithinLimits.{is_expr-expr_in, are_exprs-exprs_in}
 
 -- ---- fields
 

@@ -1,10 +1,2 @@
-pub mod Nodes
-pub mod SoundNodes
-pub mod Walks
-pub mod WithinLimits
 pub mod BuiltSteps
-pub mod Names
-pub mod Parts
-pub mod ReadsBack
-pub mod ReadsOn
 pub mod StepsReadBack

@@ -1,52 +1,23 @@
--- Lists of expressions, steps and plans that are written read back.
-use Rattle.std.proofs.Common.{◌≡◌, ℕ, zero, suc, ◌+◌, ◌-◌, ◌<◌, ◌≤◌, ◌&&◌, nat_lt, nat_le, true, List, [], ◌∷◌, length, Some, Ok, refl, arith, lt-ltb, le-leb}
+-- Steps and plans that are written read back.
+use Rattle.std.proofs.Common.{◌≡◌, ℕ, zero, suc, ◌+◌, ◌≤◌, ◌&&◌, nat_lt, nat_le, true, List, [], ◌∷◌, length, Some, Ok, refl, arith, lt-ltb, le-leb}
 use Rattle.std.specs.Prelude.{slice_get}
 use Rattle.std.proofs.lemmas.Bool.{and_parts, leb-true}
-use Rattle.serde_json.specs.Data.{Data, array}
-use Rattle.serde_json.specs.View.{items_of}
+use Rattle.serde_json.specs.Data.{Data}
 use Rattle.json_fields.proofs.Members.{data_list-items_of}
 use Rattle.json_fields.specs.Walk.{each}
 use Rattle.record_text.specs.Names.{is_name}
 use Rattle.plan_model.specs.declared.expr.Expr.{Expr}
 use Rattle.plan_model.specs.declared.step.Step.{Step}
 use Rattle.plan_model.specs.declared.step.Step.TheVariants as step
-use Rattle.plan_model.specs.Limits.{depth, node_count, is_expr, are_exprs, is_step, are_steps, is_plan}
-use Rattle.plan_model.specs.Values.{term_of, has_places}
-use Rattle.plan_reader.specs.declared.fault.Field.TheVariants as field
-use Rattle.plan_reader.specs.declared.fault.Place.{Place}
-use Rattle.plan_reader.specs.Exprs.{expr_in, member_in}
-use Rattle.plan_reader.specs.Fields.{place}
+use Rattle.plan_model.specs.Limits.{is_expr, are_exprs, is_step, are_steps, is_plan}
+use Rattle.expr_text.specs.declared.fault.Field.TheVariants as field
+use Rattle.expr_text.specs.Fields.{place}
+use Rattle.expr_text.specs.Written.{ReadsAs, ListReadsAs}
+use Rattle.expr_text.proofs.ListsReadBack.{reads-expr_in}
+use Rattle.expr_text.proofs.Walks.{length-each}
 use Rattle.plan_reader.specs.Plans.{plan_walk, is_built}
 use Rattle.plan_reader.specs.Steps.{source_in, where_in, select_in, step_in, is_built_step}
-use Rattle.plan_reader.specs.Written.{ReadsAs, ListReadsAs, StepReadsAs, source_data, where_data, select_data, plan_data}
-use Rattle.plan_reader.proofs.Walks.{length-each}
-
--- ---- expressions and lists of them
-
-pub has_places-is_expr : (e : Expr) → is_expr e ≡ true → has_places (term_of e) ≡ true
-has_places-is_expr e h = (and_parts (nat_le (depth (term_of e)) 16 && nat_le (node_count (term_of e)) 256) (has_places (term_of e)) h).1
-
-pub reads-expr_in : (place : Place) (e : Expr) (d : Data) → is_expr e ≡ true → ReadsAs e d → expr_in place d ≡ Ok e
-reads-expr_in place e d h reads =
-    let parts = and_parts (nat_le (depth (term_of e)) 16 && nat_le (node_count (term_of e)) 256) (has_places (term_of e)) h in
-    let limits = and_parts (nat_le (depth (term_of e)) 16) (nat_le (node_count (term_of e)) 256) parts.0 in
-    let few : node_count (term_of e) ≤ 256 = leb-true (node_count (term_of e)) 256 limits.1 in
-    let full : node_count (term_of e) + (256 - node_count (term_of e)) ≡ 256 = omega arith in
-    let walked = (rw full at (reads place 16 (256 - node_count (term_of e)) (leb-true (depth (term_of e)) 16 limits.0))) in
-    rw walked refl
-
-pub is_expr-at : (es : List Expr) (i : ℕ) (e : Expr) → are_exprs es ≡ true → slice_get es i ≡ Some e → is_expr e ≡ true
-is_expr-at [] i e all is = cc
-is_expr-at (x ∷ es) zero e all is =
-    let same : x ≡ e = cc in rw (← same) (and_parts (is_expr x) (are_exprs es) all).0
-is_expr-at (x ∷ es) (suc i) e all is = is_expr-at es i e (and_parts (is_expr x) (are_exprs es) all).1 is
-
--- 1 to 16 values, each of which is walked as an expression
-pub reads-list : (es : List Expr) (ds : List Data) → 0 < length es → length es ≤ 16 → ((place : Place) → each (member_in place) 0 ds ≡ Ok es) →
-    ListReadsAs es (array (items_of ds))
-reads-list es ds some few read place =
-    let len : length es ≡ length ds = length-each (member_in place) 0 ds es (read place) in
-    rw (data_list-items_of ds, lt-ltb 0 (length ds) (omega arith), le-leb (length ds) 16 (omega arith), read place) refl
+use Rattle.plan_reader.specs.Written.{StepReadsAs, source_data, where_data, select_data, plan_data}
 
 -- ---- steps
 

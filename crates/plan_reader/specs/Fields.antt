@@ -1,34 +1,16 @@
 -- The fields of a plan and of its steps: what each denotes, or its fault.
-use Rattle.std.specs.Prelude.{ℕ, ◌==◌, nat_lt, List, length, Bool, is_none, codes, if◌then◌else◌, Option, Some, None, option_and_then, ⊤, Result, Ok}
+use Rattle.std.specs.Prelude.{ℕ, ◌==◌, nat_lt, List, codes, if◌then◌else◌, Option, Some, None, option_and_then, ⊤, Result, Ok}
 use Rattle.serde_json.specs.Data.{Data, Members}
 use Rattle.serde_json.specs.Find.{get, as_str, as_number, as_u64}
-use Rattle.json_fields.specs.Walk.{needed}
-use Rattle.json_fields.specs.Fields.{list_of, first_unknown}
 use Rattle.record_text.specs.Names.{name_of}
-use Rattle.plan_reader.specs.declared.fault.Field.{Field}
-use Rattle.plan_reader.specs.declared.fault.Field.TheVariants as field
-use Rattle.plan_reader.specs.declared.fault.Place.{Place}
-use Rattle.plan_reader.specs.declared.fault.PlanText.{PlanText}
-use Rattle.plan_reader.specs.declared.fault.PlanText.TheVariants as fault
-use Rattle.plan_reader.specs.Gives.{shape}
-
--- a field of a step
-abbrev pub place : ℕ → Field → Place
-place step f = record { step = step; field = f }
-
--- what is there, or the fault of the field
-abbrev pub or_shape : {A : Type 0} → Place → Option A → Result A PlanText
-or_shape p found = needed (fault.Shape p.step p.field) found
-
--- the object has no field but these
-abbrev pub has_only : List (List ℕ) → Members → Bool
-has_only names ms = is_none (first_unknown names ms)
+use Rattle.expr_text.specs.declared.fault.Field.TheVariants as field
+use Rattle.expr_text.specs.declared.fault.PlanText.{PlanText}
+use Rattle.expr_text.specs.Fields.{place, or_shape, has_only}
+use Rattle.expr_text.specs.Gives.{shape}
 
 -- the step has no field but these
 abbrev pub no_other : ℕ → List (List ℕ) → Members → Result ⊤ PlanText
 no_other step names ms = if has_only names ms then Ok tt else shape (place step field.Other)
-
--- ---- fields
 
 -- the whole number of a field
 abbrev pub whole_of : List ℕ → Data → Option ℕ
@@ -40,13 +22,6 @@ one n = if n == 1 then Some tt else None
 
 abbrev pub format_in : Data → Result ⊤ PlanText
 format_in d = or_shape (place 0 field.Format) (option_and_then one (whole_of (codes "format") d))
-
--- the members of a list that isn't empty
-abbrev some_of : List Data → Option (List Data)
-some_of ds = if nat_lt 0 (length ds) then Some ds else None
-
-abbrev pub list_in : Place → Option Data → Result (List Data) PlanText
-list_in p found = or_shape p (option_and_then some_of (option_and_then list_of found))
 
 -- the name of a source
 abbrev pub name_in : ℕ → Data → Result (List ℕ) PlanText

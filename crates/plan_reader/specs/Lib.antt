@@ -1,7 +1,4 @@
-pub mod Gives
 pub mod Fields
-pub mod Forms
-pub mod Exprs
 pub mod Steps
 pub mod Plans
 pub mod Written

@@ -5,11 +5,12 @@ use Rattle.serde_json.specs.Data.{Data}
 use Rattle.serde_json.specs.Find.{get, as_object}
 use Rattle.json_fields.specs.Walk.{◌>>=◌, each}
 use Rattle.plan_model.specs.declared.step.Step.{Step}
-use Rattle.plan_reader.specs.declared.fault.Field.TheVariants as field
-use Rattle.plan_reader.specs.declared.fault.Limit.TheVariants as limit
-use Rattle.plan_reader.specs.declared.fault.PlanText.{PlanText}
-use Rattle.plan_reader.specs.Gives.{over}
-use Rattle.plan_reader.specs.Fields.{place, or_shape, no_other, format_in, list_in}
+use Rattle.expr_text.specs.declared.fault.Field.TheVariants as field
+use Rattle.expr_text.specs.declared.fault.Limit.TheVariants as limit
+use Rattle.expr_text.specs.declared.fault.PlanText.{PlanText}
+use Rattle.expr_text.specs.Gives.{over}
+use Rattle.expr_text.specs.Fields.{place, or_shape, list_in}
+use Rattle.plan_reader.specs.Fields.{no_other, format_in}
 use Rattle.plan_reader.specs.Steps.{step_in, is_built_step}
 
 -- at most 64 steps

@@ -6,12 +6,13 @@ use Rattle.serde_json.specs.Find.{get, as_str, as_object}
 use Rattle.json_fields.specs.Walk.{◌>>=◌}
 use Rattle.plan_model.specs.declared.step.Step.{Step}
 use Rattle.plan_model.specs.declared.step.Step.TheVariants as step
-use Rattle.plan_reader.specs.declared.fault.Field.TheVariants as field
-use Rattle.plan_reader.specs.declared.fault.PlanText.{PlanText}
+use Rattle.expr_text.specs.declared.fault.Field.TheVariants as field
+use Rattle.expr_text.specs.declared.fault.PlanText.{PlanText}
 use Rattle.plan_reader.specs.declared.step.StepKind.{StepKind}
 use Rattle.plan_reader.specs.declared.step.StepKind.TheVariants as kind
-use Rattle.plan_reader.specs.Fields.{place, or_shape, no_other, name_in, of_in}
-use Rattle.plan_reader.specs.Exprs.{expr_in, exprs_in}
+use Rattle.plan_reader.specs.Fields.{no_other, name_in, of_in}
+use Rattle.expr_text.specs.Exprs.{expr_in, exprs_in}
+use Rattle.expr_text.specs.Fields.{place, or_shape}
 
 -- ---- what a step does
 

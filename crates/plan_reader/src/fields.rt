@@ -1,20 +1,12 @@
 //! The fields of a plan and of its steps.
-ghost use Rattle.std.specs.Prelude.{◌≡◌, ◌<◌, IfOk, length, map, option_map, ⊤};
+ghost use Rattle.std.specs.Prelude.{map};
 ghost use Rattle.serde_json.specs.View.{view, members_view};
-ghost use Rattle.plan_reader.specs.Gives.{Gives, GivesBy};
-ghost use Rattle.plan_reader.specs.Fields.{format_in, has_only, list_in, name_in, no_other, of_in};
+ghost use Rattle.expr_text.specs.Gives.{Gives};
+ghost use Rattle.plan_reader.specs.Fields.{format_in, name_in, no_other, of_in};
 
-use crate::fault::{Field, Place, PlanText, shape};
-use json_fields::{list_of, unknown_key};
+use expr_text::{Field, Place, PlanText, has_only, shape};
 use record_text::Name;
 use serde_json::{Map, Value};
-
-/// Whether the object has no field but these.
-pub fn has_only(members: &Map<String, Value>, names: &[&str]) -> bool
-    ensures { result ≡ has_only (map (λ name. name.now) names.now) (members_view members.now.entries) }
-{
-    unknown_key(members, names).is_none()
-}
 
 /// Refuses a field of the step that is none of these.
 pub fn only_known(step: usize, members: &Map<String, Value>, names: &[&str]) -> Result<(), PlanText>
@@ -40,17 +32,6 @@ pub fn format(value: &Value) -> Result<(), PlanText>
             step: 0,
             field: Field::Format,
         }),
-    }
-}
-
-/// A list that isn't empty.
-pub fn list<'v>(place: Place, field: Option<&'v Value>) -> Result<&'v [Value], PlanText>
-    ensures list { GivesBy (λ list. map view list.now) result (list_in place (option_map (λ v. view v.now) field.entry)) }
-    ensures some { IfOk result (λ list. 0 < length list.now) }
-{
-    match field.and_then(list_of) {
-        Some(list) if !list.is_empty() => Ok(list),
-        _ => shape(place),
     }
 }
 

@@ -2,13 +2,11 @@
 //! walk, and a plan is written as a value that reads as that plan. The walk is defined in `specs/`.
 #![tactic(auto)]
 
-mod expr;
-mod fault;
 mod fields;
 mod plan;
 mod step;
 mod write;
 
-pub use fault::{Field, Limit, PlanText};
+pub use expr_text::{Field, Limit, PlanText};
 pub use plan::read_plan;
 pub use write::plan_to_json;

@@ -2,13 +2,13 @@
 ghost use Rattle.std.specs.Prelude.{◌≡◌, ◌≤◌, ◌<◌, IfOk, IsTrue, length, map};
 ghost use Rattle.serde_json.specs.View.{view};
 ghost use Rattle.json_fields.specs.Walk.{each};
-ghost use Rattle.plan_reader.specs.Gives.{Gives, GivesBy};
+ghost use Rattle.expr_text.specs.Gives.{Gives, GivesBy};
 ghost use Rattle.plan_reader.specs.Steps.{step_in};
 ghost use Rattle.plan_reader.specs.Plans.{is_built, plan_walk};
 
-use crate::fault::{Field, Limit, Place, PlanText, over, shape};
-use crate::fields::{format, list, only_known};
+use crate::fields::{format, only_known};
 use crate::step::step;
+use expr_text::{Field, Limit, Place, PlanText, list, over, shape};
 use plan_model::{Plan, Step};
 use serde_json::Value;
 use std::alloc::Global;

@@ -1,12 +1,11 @@
 //! From a value to a step.
 ghost use Rattle.std.specs.Prelude.{◌≡◌, map};
 ghost use Rattle.serde_json.specs.View.{view, members_view};
-ghost use Rattle.plan_reader.specs.Gives.{Gives};
-ghost use Rattle.plan_reader.specs.Steps.{kind_of, select_in, source_in, step_fields, step_in, where_in};
+ghost use Rattle.expr_text.specs.Gives.{Gives};
+ghost use Rattle.plan_reader.specs.Steps.{kind_named, kind_of, select_in, source_in, step_fields, step_in, where_in};
 
-use crate::expr::{expr, exprs};
-use crate::fault::{Field, Place, PlanText, shape};
 use crate::fields::{earlier, name, only_known};
+use expr_text::{Field, Place, PlanText, expr, exprs, shape};
 use plan_model::Step;
 use serde_json::{Map, Value};
 use std::alloc::Global;
@@ -47,7 +46,16 @@ pub fn step(alloc: Global, at: usize, value: &Value) -> Result<Step, PlanText>
 fn kind(value: &Value) -> Option<StepKind>
     ensures { result ≡ kind_of (view value.now) }
 {
-    let text = value.get("do")?.as_str()?;
+    match value.get("do").and_then(Value::as_str) {
+        Some(text) => kind_named(text),
+        None => None,
+    }
+}
+
+// What the text of that field asks for.
+fn kind_named(text: &str) -> Option<StepKind>
+    ensures { result ≡ kind_named text.now }
+{
     if text == "source" {
         Some(StepKind::Source)
     } else if text == "where" {

@@ -18,10 +18,10 @@ use Rattle.json_fields.specs.Walk.{◌>>=◌, needed, each}
 use Rattle.json_fields.specs.Fields.{list_of, is_text, first_unknown}
 use Rattle.plan_model.specs.declared.step.Step.{Step}
 use Rattle.plan_reader.specs.Plans.{plan_walk}
-use Rattle.plan_reader.specs.declared.fault.Field.{Field}
-use Rattle.plan_reader.specs.declared.fault.Field.TheVariants as part
-use Rattle.plan_reader.specs.declared.fault.PlanText.{PlanText}
-use Rattle.plan_reader.specs.declared.fault.PlanText.TheVariants as walk
+use Rattle.expr_text.specs.declared.fault.Field.{Field}
+use Rattle.expr_text.specs.declared.fault.Field.TheVariants as part
+use Rattle.expr_text.specs.declared.fault.PlanText.{PlanText}
+use Rattle.expr_text.specs.declared.fault.PlanText.TheVariants as walk
 use Rattle.request_text.specs.declared.refusal.Thing.{Thing}
 use Rattle.request_text.specs.declared.refusal.Thing.TheVariants as thing
 use Rattle.request_text.specs.declared.refusal.Refusal.{Refusal}

@@ -11,8 +11,8 @@ use Rattle.record_text.specs.declared.kinds.Kind.{Kind}
 use Rattle.record_text.specs.declared.kinds.Kind.TheVariants as kind
 use Rattle.plan_model.specs.declared.plan.What.{What}
 use Rattle.plan_model.specs.declared.plan.What.TheVariants as cause
-use Rattle.plan_reader.specs.declared.fault.Limit.{Limit}
-use Rattle.plan_reader.specs.declared.fault.Limit.TheVariants as limit
+use Rattle.expr_text.specs.declared.fault.Limit.{Limit}
+use Rattle.expr_text.specs.declared.fault.Limit.TheVariants as limit
 use Rattle.csv_changes.specs.declared.fault.CsvWhat.{CsvWhat}
 use Rattle.csv_changes.specs.declared.fault.CsvWhat.TheVariants as csv
 use Rattle.request_text.specs.Fields.{thing_word}

@@ -3,7 +3,7 @@ ghost use Rattle.std.specs.Prelude.{◌≡◌, Err, IfOk, IsTrue, option_map};
 ghost use Rattle.serde_json.specs.View.{view};
 ghost use Rattle.plan_model.specs.Limits.{is_plan};
 ghost use Rattle.plan_reader.specs.Plans.{is_built};
-ghost use Rattle.plan_reader.specs.declared.fault.PlanText.TheVariants as walk;
+ghost use Rattle.expr_text.specs.declared.fault.PlanText.TheVariants as walk;
 ghost use Rattle.request_text.specs.Gives.{Gives};
 ghost use Rattle.request_text.specs.Fields.{field_word, plan_fault, plan_of};
 

@@ -1,6 +1,6 @@
 use Rattle.std.proofs.Common.{rules}
 use Rattle.plan_reader.specs.Steps.{step_in}
-use Rattle.plan_reader.proofs.ReadsOn.{next_reads}
+use Rattle.expr_text.proofs.ReadsOn.{next_reads}
 use Rattle.plan_reader.proofs.StepsReadBack.{is_step-at, is_built-at}
 use Rattle.plan_reader.proofs.write.steps_to_json.Goals as goal
 

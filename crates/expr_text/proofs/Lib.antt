@@ -1,0 +1,9 @@
+pub mod Nodes
+pub mod SoundNodes
+pub mod Walks
+pub mod WithinLimits
+pub mod Names
+pub mod Parts
+pub mod ReadsBack
+pub mod ReadsOn
+pub mod ListsReadBack

@@ -1,0 +1,5 @@
+pub mod Gives
+pub mod Fields
+pub mod Forms
+pub mod Exprs
+pub mod Written
