@@ -1,8 +1,8 @@
 -- What outputs worked out key by key say of the whole output.
-use Rattle.std.specs.Prelude.{◌≡◌, ◌≢◌, ◌↔◌, Bool, true, false, All, List, refl}
-use Rattle.std.proofs.Common.{sym, ap, subst, ◌∙◌, true≢false}
+use Rattle.std.specs.Prelude.{◌≡◌, ◌≢◌, ◌↔◌, ◌⊎◌, Bool, true, false, All, List, refl}
+use Rattle.std.proofs.Common.{sym, ap, subst, ◌∙◌, inl, inr, true≢false}
 use Rattle.std.proofs.lemmas.Bool.{false_from_ne_true}
-use Rattle.ratios.specs.Ratio.{one_ratio, zero_ratio}
+use Rattle.ratios.specs.Ratio.{zero_ratio}
 use Rattle.datasets.specs.Dataset.{Dataset, at}
 use Rattle.datasets.specs.Entries.{Row, has_row, is_zero}
 use Rattle.datasets.proofs.Rows.{other_if_not_is_zero, zero_if_is_zero}
@@ -12,11 +12,11 @@ use Rattle.weighted_set.specs.Held.{AllInRange, HeldRows, HoldsStep}
 use Rattle.weighted_set.specs.Parts.{FactoredInRange, part_of}
 use Rattle.weighted_set.specs.Standing.{MayBecome}
 use Rattle.weighted_set.proofs.ChangeLists.{change_list_leads_there}
-use Rattle.weighted_set.proofs.Parts.{FactoredInRange-ones}
-use Rattle.weighted_set.proofs.Sets.{InRange-zero}
+use Rattle.flow_graph.specs.Products.{changes_in_range}
 use Rattle.flow_graph.specs.Standing.{AreSettled, ArePartsOf, HoldParts, HoldSettled, PutInputs}
 use Rattle.flow_graph.specs.Staging.{AreStaged, outputs_by}
 use Rattle.weighted_set.specs.Parts.{StoreParts, committed_part, pending_part}
+use Rattle.flow_graph.proofs.Products.{FactoredInRange-applied, changes_in_range-factored}
 use Rattle.flow_graph.proofs.Staged.{staged_step}
 
 -- a changed row has a weight before or after
@@ -52,8 +52,6 @@ settled_first left_keys right_keys left_store right_store pending Takes fits lef
 -- the laws of an operator that the engine needs
 pub record Laws (left_keys right_keys : Row → Dataset) (owner : Row → Row) (outputs : Row → Dataset → Dataset → Dataset) (part_fits : Row → Dataset → Dataset → Bool) (output : Dataset → Dataset → Dataset)
     (fits : Dataset → Dataset → Bool) (Takes : Dataset → Dataset → Type 0) (TakesPart : Row → Dataset → Dataset → Type 0) : Type 0 where
-  pub left_ones : (x k : Row) → at (left_keys x) k ≢ zero_ratio → at (left_keys x) k ≡ one_ratio
-  pub right_ones : (x k : Row) → at (right_keys x) k ≢ zero_ratio → at (right_keys x) k ≡ one_ratio
   pub together : (A B : Dataset) (z : Row) → Takes A B → at (output A B) z ≡ at (outputs (owner z) (part_of left_keys (owner z) A) (part_of right_keys (owner z) B)) z
   pub by_part : (A B : Dataset) → Takes A B → AllInRange A → AllInRange B → (fits A B ≡ true) ↔ (FactoredInRange left_keys A × FactoredInRange right_keys B × ((k : Row) → part_fits k (part_of left_keys k A) (part_of right_keys k B) ≡ true))
   pub takes_parts : (A B : Dataset) (k : Row) → Takes A B → TakesPart k (part_of left_keys k A) (part_of right_keys k B)
@@ -72,6 +70,19 @@ module _ {left_keys right_keys : Row → Dataset} {owner : Row → Row} {outputs
   output_is P Q A B t h x =
       let k = owner x in
       laws.together A B x t ∙ ap (λ X. at (outputs k X (part_of right_keys k B)) x) (sym (h.of_left k)) ∙ ap (λ Y. at (outputs k (P k) Y) x) (sym (h.of_right k))
+
+  -- changes with a product out of range lead to inputs that don't fit
+  pub misfits_put : {StandsFor : Dataset → Dataset → Type 0} {left right : List Change} (A B C D : Dataset) → MayBecome StandsFor Takes fits left right A B C D → AllInRange (applied A left) → AllInRange (applied B right)
+      → (changes_in_range left_keys left ≡ false) ⊎ (changes_in_range right_keys right ≡ false) → fits C D ≡ false
+  misfits_put {left = left} {right = right} A B C D m left_in_range right_in_range out =
+      let left_range : AllInRange C = subst AllInRange (change_list_leads_there left A C m.left_changes).1 left_in_range in
+      let right_range : AllInRange D = subst AllInRange (change_list_leads_there right B D m.right_changes).1 right_in_range in
+      false_from_ne_true (fits C D) (λ f.
+      let factored = (laws.by_part C D m.takes_after left_range right_range).0 f in
+      elim out as (λ _. ⊥) [
+        | inl p ↦ true≢false (sym (changes_in_range-factored left_keys left A C m.left_changes factored.0) ∙ p)
+        | inr p ↦ true≢false (sym (changes_in_range-factored right_keys right B D m.right_changes factored.1) ∙ p)
+      ])
 
   module _ {left right : List Change} {old_left old_right new_left new_right : StoreParts} {touched : List Row} (put : PutInputs left_keys right_keys left right old_left old_right new_left new_right touched)
       (A B C D : Dataset) (m : MayBecome (HoldSettled left_keys right_keys old_left old_right) Takes fits left right A B C D) where
@@ -114,6 +125,15 @@ module _ {left_keys right_keys : Row → Dataset} {owner : Row → Row} {outputs
         ap (λ X. outputs k X (committed_part new_right k)) (left_same k apart) ∙ ap (outputs k (pending_part new_left k)) (right_same k apart))
 
     -- ---- what fits
+    factored_before : FactoredInRange left_keys A × FactoredInRange right_keys B
+    factored_before = let fit = (laws.by_part A B m.takes_before m.left_in_range m.right_in_range).0 m.fits_before in (fit.0, fit.1)
+
+    left_factored : FactoredInRange left_keys C
+    left_factored = subst (FactoredInRange left_keys) left_is (FactoredInRange-applied left_keys left A put.left_products factored_before.0)
+
+    right_factored : FactoredInRange right_keys D
+    right_factored = subst (FactoredInRange right_keys) right_is (FactoredInRange-applied right_keys right B put.right_products factored_before.1)
+
     pub fit_before : (k : Row) → part_fits k (committed_part new_left k) (committed_part new_right k) ≡ true
     fit_before k =
         part_fits_is (committed_part new_left) (committed_part new_right) A B held_before k ∙ ((laws.by_part A B m.takes_before m.left_in_range m.right_in_range).0 m.fits_before).2 k
@@ -135,8 +155,8 @@ module _ {left_keys right_keys : Row → Dataset} {owner : Row → Row} {outputs
       pub fits_after : (keys : List Row) → keys ≡ touched → ((k : Row) → has_row keys k ≡ true → part_fits k (pending_part new_left k) (pending_part new_right k) ≡ true) → fits C D ≡ true
       fits_after keys same here =
           (laws.by_part C D m.takes_after left_range right_range).1 (
-            FactoredInRange-ones left_keys laws.left_ones InRange-zero C left_range,
-            FactoredInRange-ones right_keys laws.right_ones InRange-zero D right_range,
+            left_factored,
+            right_factored,
             λ k. sym (part_fits_is (pending_part new_left) (pending_part new_right) C D held_after k) ∙ part_fits_after (λ k h. here k (ap (λ ks. has_row ks k) same ∙ h)) k,
           )
 

@@ -12,7 +12,7 @@ use Rattle.datasets.proofs.Equality.{same_weights}
 use Rattle.datasets.proofs.Weights.{at-empty}
 use Rattle.datasets.specs.Dataset.{Dataset, at, empty, rows}
 use Rattle.datasets.specs.Entries.{Row}
-use Rattle.op_linear.specs.Ranges.{weights_in_range-all}
+use Rattle.op_parts.proofs.Ranges.{weights_in_range-all}
 use Rattle.operators.proofs.Gathered.{at-gathered}
 use Rattle.operators.proofs.Tabulated.{at-filtered}
 use Rattle.operators.specs.InRange.{select_in_range, weights_in_range}

@@ -1,3 +1,4 @@
+pub mod Products
 pub mod Pending
 pub mod Staged
 pub mod Engine

@@ -1,26 +1,32 @@
 -- What making changes pending key by key does to the parts.
-use Rattle.std.specs.Prelude.{◌≡◌, ◌≢◌, ℕ, ◌+◌, ◌<◌, Bool, true, false, cond, ◌||◌, List, [], ◌∷◌, ◌++◌, length, take, refl}
-use Rattle.std.specs.List.{dedup, dedup_from}
-use Rattle.std.proofs.Common.{sym, ap, subst, ◌∙◌, get_or}
+use Rattle.std.specs.Prelude.{◌≡◌, ℕ, ◌+◌, ◌<◌, Bool, true, false, cond, ◌||◌, List, [], ◌∷◌, ◌++◌, length, take, refl}
+use Rattle.std.specs.List.{AllByRecursion, dedup, dedup_from}
+use Rattle.std.proofs.Common.{sym, ap, subst, ◌∙◌, arith, get_or}
 use Rattle.std.proofs.Math.Bool.{or-false, or_assoc}
 use Rattle.std.proofs.lemmas.List.{take_more}
+use Rattle.std.proofs.lemmas.List.Elements.{All-from_recursion}
 use Rattle.std.proofs.lemmas.List.Folds.{list_any-append}
 use Rattle.std.proofs.lemmas.List.Sums.{fold_more}
-use Rattle.ratios.specs.Ratio.{Ratio, one_ratio, zero_ratio}
+use Rattle.ratios.specs.Ratio.{Ratio, ratio_mul, zero_ratio}
 use Rattle.ratios.specs.Range.{InRange}
+use Rattle.ratios.proofs.Products.{ratio_mul_zero}
 use Rattle.record_text.specs.Order.{row_eq}
 use Rattle.record_text.specs.OrderLaws.{row_ties}
 use Rattle.datasets.specs.Dataset.{Dataset, at, rows, set_at}
-use Rattle.datasets.specs.Entries.{Row, Entries, has_row, rows_of, same_row}
+use Rattle.datasets.specs.Entries.{AreRising, Row, Entries, has_row, rows_of, same_row, weight_in}
+use Rattle.datasets.proofs.Counts.{set_at-same}
 use Rattle.datasets.proofs.Equality.{same_weights}
 use Rattle.datasets.proofs.Rows.{same_row-equal}
-use Rattle.datasets.proofs.Weights.{at-set_at}
+use Rattle.datasets.proofs.Weights.{at-absent, at-set_at}
 use Rattle.weighted_set.specs.declared.weighted.Change.{Change}
 use Rattle.weighted_set.specs.declared.weighted.Weighted.{Weighted}
 use Rattle.weighted_set.specs.Changes.{applied, entries_of}
 use Rattle.weighted_set.specs.Held.{AllInRange}
-use Rattle.weighted_set.proofs.Parts.{part_of-set_at}
+use Rattle.weighted_set.specs.Parts.{part_of}
+use Rattle.weighted_set.proofs.Parts.{at-part_of, entries_have_weights, part_of-set_at}
+use Rattle.weighted_set.proofs.Running.{entry_is, length-entries_of}
 use Rattle.weighted_set.proofs.Sets.{AllInRange-set_at, apart_from_all}
+use Rattle.flow_graph.specs.Products.{with_products}
 use Rattle.flow_graph.specs.Standing.{ArePartsOf}
 
 -- ---- one item more
@@ -46,8 +52,14 @@ each_more P done x all here k h =
 pub entries_of_slice : (slice items : List Weighted) (A : Dataset) → slice ≡ items → entries_of items ≡ A.entries → entries_of slice ≡ A.entries
 entries_of_slice slice items A e h = ap entries_of e ∙ h
 
-pub noted_row : (new old : List Row) (x copy : Row) → new ≡ old ++ copy ∷ [] → copy ≡ x → new ≡ old ++ x ∷ []
-noted_row new old x copy e f = e ∙ ap (λ r. old ++ r ∷ []) f
+-- the weight of a row of a list in row order
+pub entry_weight : (list : List Weighted) → AreRising (rows_of (entries_of list)) → (i : ℕ) (e : Weighted) → i < length list → e ≡ get_or list i e → e.weight ≡ weight_in (entries_of list) e.row
+entry_weight list rising i e h is =
+    let n = length-entries_of list in
+    let P : Row × Ratio → Type 0 = λ f. f.1 ≡ weight_in (entries_of list) f.0 in
+    let each : AllByRecursion P (entries_of list) = entries_have_weights (entries_of list) rising in
+    let below : i < length (entries_of list) = omega arith in
+    subst P (entry_is list i e h is) (All-from_recursion P (entries_of list) each i (e.row, e.weight) below)
 
 keys_append : (ks : List Weighted) (e : Weighted) (k : Row) → has_row (rows_of (entries_of (ks ++ e ∷ []))) k ≡ (has_row (rows_of (entries_of ks)) k || same_row k e.row)
 keys_append [] e k = or-false (same_row k e.row)
@@ -71,15 +83,20 @@ set_at_either true false x w A = refl
 set_at_either false true x w A = refl
 set_at_either false false x w A = refl
 
--- one key more has the new weight
-pub put_more : (ks : List Weighted) (i : ℕ) (e : Weighted) → i < length ks → e ≡ get_or ks i e → (x : Row) (w : Ratio) (first now next : Row → Dataset)
-    → ((k : Row) → now k ≡ cond (has_row (rows_of (entries_of (take i ks))) k) (set_at x w (first k)) (first k))
-    → ((k : Row) → next k ≡ cond (same_row k e.row) (set_at x w (now k)) (now k))
-    → (k : Row) → next k ≡ cond (has_row (rows_of (entries_of (take (i + 1) ks))) k) (set_at x w (first k)) (first k)
-put_more ks i e h is x w first now next p q k =
+-- one key more has the new weight times its factor
+pub put_more : (ks : List Weighted) → AreRising (rows_of (entries_of ks)) → (i : ℕ) (e : Weighted) → i < length ks → e ≡ get_or ks i e → (x : Row) (w v : Ratio) → v ≡ ratio_mul w e.weight → (first now next : Row → Dataset)
+    → ((k : Row) → now k ≡ cond (has_row (rows_of (entries_of (take i ks))) k) (set_at x (ratio_mul w (weight_in (entries_of ks) k)) (first k)) (first k))
+    → ((k : Row) → next k ≡ cond (same_row k e.row) (set_at x v (now k)) (now k))
+    → (k : Row) → next k ≡ cond (has_row (rows_of (entries_of (take (i + 1) ks))) k) (set_at x (ratio_mul w (weight_in (entries_of ks) k)) (first k)) (first k)
+put_more ks rising i e h is x w v product first now next p q k =
     let seen = has_row (rows_of (entries_of (take i ks))) k in
-    q k ∙ ap (λ A. cond (same_row k e.row) (set_at x w A) A) (p k) ∙ set_at_either seen (same_row k e.row) x w (first k)
-    ∙ ap (λ b. cond b (set_at x w (first k)) (first k)) (sym (keys_more ks i e h is k))
+    let u = ratio_mul w (weight_in (entries_of ks) k) in
+    q k ∙ own (same_row k e.row) (same_row-equal k e.row) ∙ ap (λ A. cond (same_row k e.row) (set_at x u A) A) (p k) ∙ set_at_either seen (same_row k e.row) x u (first k)
+    ∙ ap (λ b. cond b (set_at x u (first k)) (first k)) (sym (keys_more ks i e h is k))
+  where
+    own : (b : Bool) → (b ≡ true → k ≡ e.row) → cond b (set_at x v (now k)) (now k) ≡ cond b (set_at x (ratio_mul w (weight_in (entries_of ks) k)) (now k)) (now k)
+    own true same = ap (λ z. set_at x z (now k)) (product ∙ ap (ratio_mul w) (entry_weight ks rising i e h is) ∙ ap (λ y. ratio_mul w (weight_in (entries_of ks) y)) (sym (same refl)))
+    own false same = refl
 
 -- keys that are not noted keep their part
 pub untouched_more : (old new : List Row) (key : Row) → new ≡ old ++ key ∷ [] → (x : Row) (w : Ratio) (now next : Row → Dataset) → ((k : Row) → next k ≡ cond (same_row k key) (set_at x w (now k)) (now k))
@@ -89,13 +106,25 @@ untouched_more old new key e x w now next q k n =
     (apart.0, q k ∙ ap (λ b. cond b (set_at x w (now k)) (now k)) apart.1)
 
 -- ---- parts
-pub parts_more : (keys : Row → Dataset) → ((x k : Row) → at (keys x) k ≢ zero_ratio → at (keys x) k ≡ one_ratio) → (x : Row) (w : Ratio) (es : Entries) → es ≡ (keys x).entries → (old new : Row → Dataset)
-    → ((k : Row) → new k ≡ cond (has_row (rows_of es) k) (set_at x w (old k)) (old k)) → (A : Dataset) → ArePartsOf keys old A → ArePartsOf keys new (set_at x w A)
-parts_more keys ones x w es e old new p A h k =
+-- a row isn't in the part of a key that it doesn't belong to
+unset : (keys : Row → Dataset) (k x : Row) (w : Ratio) (A : Dataset) → at (keys x) k ≡ zero_ratio → set_at x (ratio_mul w (at (keys x) k)) (part_of keys k A) ≡ part_of keys k A
+unset keys k x w A none =
+    let part = part_of keys k A in
+    let absent : at part x ≡ zero_ratio = at-part_of keys k A x ∙ ap (ratio_mul (at A x)) none ∙ ratio_mul_zero (at A x) in
+    ap (λ v. set_at x v part) (ap (ratio_mul w) none ∙ ratio_mul_zero w ∙ sym absent) ∙ set_at-same x part
+
+pub parts_more : (keys : Row → Dataset) (x : Row) (w : Ratio) (es : Entries) → es ≡ (keys x).entries → (old new : Row → Dataset)
+    → ((k : Row) → new k ≡ with_products x w es old k) → (A : Dataset) → ArePartsOf keys old A → ArePartsOf keys new (set_at x w A)
+parts_more keys x w es e old new p A h k =
     p k
-    ∙ ap (λ es. cond (has_row (rows_of es) k) (set_at x w (old k)) (old k)) e
-    ∙ ap (λ B. cond (has_row (rows (keys x)) k) (set_at x w B) B) (h k)
-    ∙ sym (part_of-set_at keys ones k x w A)
+    ∙ ap (λ es. with_products x w es old k) e
+    ∙ ap (λ B. cond (has_row (rows (keys x)) k) (set_at x (ratio_mul w (at (keys x) k)) B) B) (h k)
+    ∙ set_anyway (has_row (rows (keys x)) k) (at-absent (keys x) k)
+    ∙ sym (part_of-set_at keys k x w A)
+  where
+    set_anyway : (b : Bool) → (b ≡ false → at (keys x) k ≡ zero_ratio) → cond b (set_at x (ratio_mul w (at (keys x) k)) (part_of keys k A)) (part_of keys k A) ≡ set_at x (ratio_mul w (at (keys x) k)) (part_of keys k A)
+    set_anyway true absent = refl
+    set_anyway false absent = sym (unset keys k x w A (absent refl))
 
 -- ---- a list with each row once
 rows_of_dedup_from : (k x : Row) (xs : List Row) → has_row (dedup_from row_eq x xs) k ≡ has_row (x ∷ xs) k

@@ -8,7 +8,7 @@ use Rattle.std.proofs.lemmas.List.Quantifiers.{position-Some}
 use Rattle.dataflow.specs.Evaluation.{dataset_at, evals_after, step_fits, step_output}
 use Rattle.dataflow.specs.Wiring.{RefersBefore}
 use Rattle.datasets.specs.Dataset.{Dataset, empty}
-use Rattle.op_linear.specs.Ranges.{weights_in_range-all}
+use Rattle.op_parts.proofs.Ranges.{weights_in_range-all}
 use Rattle.operators.specs.InRange.{weights_in_range}
 use Rattle.plan_checker.proofs.Positions.{is_some-position}
 use Rattle.plan_model.proofs.Accepted.{Passes-fault_after}

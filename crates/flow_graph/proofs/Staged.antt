@@ -1,28 +1,25 @@
 -- Rows that hold the weights of outputs before and after.
 use Rattle.std.specs.Prelude.{◌≡◌, ◌≢◌, ℕ, ◌+◌, ◌<◌, ◌≤◌, Bool, true, false, cond, ◌||◌, List, [], ◌∷◌, ◌++◌, length, take, Option, Some, None, MatchOption, refl}
-use Rattle.std.specs.List.{AllByRecursion}
 use Rattle.std.specs.Map.{lookup}
-use Rattle.std.proofs.Common.{sym, ap, subst, ◌∙◌, true≢false, arith, get_or}
+use Rattle.std.proofs.Common.{sym, ap, subst, ◌∙◌, true≢false, get_or}
 use Rattle.std.proofs.Math.Bool.{or-false, or-true}
 use Rattle.std.proofs.lemmas.List.{take_all}
-use Rattle.std.proofs.lemmas.List.Elements.{All-from_recursion}
 use Rattle.std.proofs.lemmas.List.Folds.{list_any-append}
 use Rattle.ratios.specs.Ratio.{Ratio, zero_ratio}
 use Rattle.datasets.specs.Dataset.{Dataset, at, rows}
-use Rattle.datasets.specs.Entries.{Row, has_row, rows_of, same_row, weight_in}
+use Rattle.datasets.specs.Entries.{AreRising, Row, has_row, rows_of, same_row, weight_in}
 use Rattle.datasets.proofs.Rows.{same_row-equal, same_row-itself, same_row-turned}
 use Rattle.datasets.proofs.Weights.{at-absent}
 use Rattle.weighted_set.specs.declared.held.Held.{Held}
 use Rattle.weighted_set.specs.declared.weighted.Weighted.{Weighted}
 use Rattle.weighted_set.specs.Changes.{entries_of}
 use Rattle.weighted_set.specs.Held.{HeldRows, HoldsStep, PutsAt}
-use Rattle.weighted_set.proofs.Parts.{at-present, entries_have_weights}
-use Rattle.weighted_set.proofs.Running.{entry_is, length-entries_of}
+use Rattle.weighted_set.proofs.Parts.{at-present}
 use Rattle.weighted_set.proofs.Tables.{at-dataset_by, weight_found}
 use Rattle.weighted_set.specs.declared.held.View.{View}
 use Rattle.weighted_set.specs.declared.held.View.TheVariants.{Committed, Pending}
 use Rattle.flow_graph.specs.Staging.{AreStaged, HoldsWeights, held_in, with_weight}
-use Rattle.flow_graph.proofs.Pending.{keys_more}
+use Rattle.flow_graph.proofs.Pending.{entry_weight, keys_more}
 
 -- ---- weights that are found, 0 where there are none
 abbrev held_found : Option Held → Held
@@ -34,13 +31,8 @@ held_in-found es x =
     ap (λ c. P c (held_in es x).pending) (at-dataset_by (λ h. h.committed) es x) ∙ ap (P (weight_found (λ h. h.committed) (lookup (same_row x) es))) (at-dataset_by (λ h. h.pending) es x)
 
 -- ---- one more row
-entry_weight : (A : Dataset) (list : List Weighted) (i : ℕ) (e : Weighted) → i < length list → e ≡ get_or list i e → entries_of list ≡ A.entries → e.weight ≡ at A e.row
-entry_weight A list i e h is same =
-    let n = length-entries_of list in
-    let P : Row × Ratio → Type 0 = λ f. f.1 ≡ weight_in A.entries f.0 in
-    let all : AllByRecursion P (entries_of list) = subst (AllByRecursion P) (sym same) (entries_have_weights A.entries A.rising) in
-    let below : i < length (entries_of list) = omega arith in
-    subst P (entry_is list i e h is) (All-from_recursion P (entries_of list) all i (e.row, e.weight) below)
+listed_weight : (A : Dataset) (list : List Weighted) (i : ℕ) (e : Weighted) → i < length list → e ≡ get_or list i e → entries_of list ≡ A.entries → e.weight ≡ at A e.row
+listed_weight A list i e h is same = entry_weight list (subst (λ es. AreRising (rows_of es)) (sym same) A.rising) i e h is ∙ ap (λ es. weight_in es e.row) same
 
 replaced_again : (view : View) (w : Ratio) (seen : Bool) (o : Option Held) → with_weight view w (held_found (cond seen (Some (with_weight view w (held_found o))) o)) ≡ with_weight view w (held_found o)
 replaced_again Committed w true o = refl
@@ -62,7 +54,7 @@ module _ (view : View) (A : Dataset) (list : List Weighted) (same : entries_of l
       ∙ (elim (same_row e.row x) as (λ b. same_row e.row x ≡ b → cond b (Some (with_weight view e.weight (held_in now e.row))) (lookup (same_row x) now) ≡ cond (seen || b) new o) [
         | true ↦ λ p.
             let here : e.row ≡ x = same_row-equal e.row x p in
-            ap (λ w. Some (with_weight view w (held_in now e.row))) (entry_weight A list i e h is same ∙ ap (at A) here)
+            ap (λ w. Some (with_weight view w (held_in now e.row))) (listed_weight A list i e h is same ∙ ap (at A) here)
             ∙ ap (λ y. Some (with_weight view (at A x) (held_in now y))) here
             ∙ ap (λ k. Some (with_weight view (at A x) k)) (held_in-found now x ∙ ap held_found (first x ∙ ap (λ k. cond seen (Some (with_weight view (at A x) k)) o) (held_in-found old x)))
             ∙ ap Some (replaced_again view (at A x) seen o ∙ ap (with_weight view (at A x)) (sym (held_in-found old x)))

@@ -1,5 +1,5 @@
 -- What parts that are made anew of whole inputs stand for.
-use Rattle.std.specs.Prelude.{◌≡◌, ◌≢◌, All, Bool, List}
+use Rattle.std.specs.Prelude.{◌≡◌, ◌≢◌, true, All, Bool, List}
 use Rattle.std.proofs.Common.{sym, ap, subst, ◌∙◌}
 use Rattle.ratios.specs.Ratio.{zero_ratio}
 use Rattle.datasets.specs.Dataset.{Dataset, at, empty}
@@ -8,19 +8,25 @@ use Rattle.datasets.proofs.Weights.{at-empty}
 use Rattle.weighted_set.specs.declared.weighted.Change.{Change}
 use Rattle.weighted_set.specs.Changes.{AreChangesOf, IsChangeList, applied}
 use Rattle.weighted_set.specs.Held.{HeldDatasets}
-use Rattle.weighted_set.specs.Parts.{StoreParts, committed_part}
+use Rattle.weighted_set.specs.Parts.{FactoredInRange, StoreParts, committed_part}
 use Rattle.weighted_set.specs.Standing.{MayBecome}
 use Rattle.weighted_set.proofs.ChangeLists.{change_list_leads_there}
 use Rattle.weighted_set.proofs.Parts.{part_of-empty}
+use Rattle.flow_graph.specs.Products.{changes_in_range}
 use Rattle.flow_graph.specs.Standing.{ArePartsOf, HoldSettled}
 use Rattle.flow_graph.specs.WholeInputs.{AreCommitted, IsMadeOf}
 use Rattle.flow_graph.proofs.Engine.{MayBecome-restated, rows_of_changes}
+use Rattle.flow_graph.proofs.Products.{changes_in_range-factored}
 
 -- ---- the parts of an input
 -- each row that is put has a weight
 pub rows_of_all : (TakesRow : Row → Type 0) (A : Dataset) (rows items : List Change) → rows ≡ items → ((x : Row) → at A x ≢ zero_ratio → TakesRow x) → IsChangeList items empty A → All (λ c. TakesRow c.row) rows
 rows_of_all TakesRow A rows items same takes h =
     subst (All (λ c. TakesRow c.row)) (sym same) (rows_of_changes TakesRow empty A items (λ x n. absurd (n (at-empty x))) takes h)
+
+-- the products of all rows are in range where the factored weights are
+pub products_of_all : (keys : Row → Dataset) (A : Dataset) (rows items : List Change) → rows ≡ items → IsChangeList items empty A → FactoredInRange keys A → changes_in_range keys rows ≡ true
+products_of_all keys A rows items same h factored = ap (changes_in_range keys) same ∙ changes_in_range-factored keys items empty A h factored
 
 -- all rows, put where there were none, are the input
 pub parts_of_all : (keys old new : Row → Dataset) (A : Dataset) (rows items : List Change) → rows ≡ items → IsChangeList items empty A → ((k : Row) → old k ≡ empty) → (ArePartsOf keys old empty → ArePartsOf keys new (applied empty rows)) → ArePartsOf keys new A
@@ -32,6 +38,10 @@ pub changes_of_committed : (changes : List Change) (input : HeldDatasets) (A C :
 changes_of_committed changes input A C is h = subst (λ X. AreChangesOf changes X × (applied X changes ≡ C)) (sym is) (change_list_leads_there changes A C h)
 
 -- ---- both inputs
+-- the committed inputs fit, so their factored weights are in range
+pub factored_committed : (keys : Row → Dataset) (A : Dataset) (old new : HeldDatasets) → new.committed ≡ old.committed → old.committed ≡ A → FactoredInRange keys A → FactoredInRange keys new.committed
+factored_committed keys A old new same is = subst (FactoredInRange keys) (sym (same ∙ is))
+
 pub made_anew : {left_keys right_keys : Row → Dataset} {left_store right_store : StoreParts} {L R : Dataset} {left_input right_input : HeldDatasets} {Takes : Dataset → Dataset → Type 0} {fits : Dataset → Dataset → Bool} {left right : List Change} {A B C D : Dataset}
     → IsMadeOf left_keys L left_store → IsMadeOf right_keys R right_store → L ≡ left_input.committed → R ≡ right_input.committed
     → MayBecome (AreCommitted left_input right_input) Takes fits left right A B C D → MayBecome (HoldSettled left_keys right_keys left_store right_store) Takes fits left right A B C D

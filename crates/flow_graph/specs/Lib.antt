@@ -1,3 +1,4 @@
+pub mod Products
 pub mod Standing
 pub mod Staging
 pub mod WholeInputs

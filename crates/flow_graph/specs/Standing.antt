@@ -1,11 +1,12 @@
 -- What an engine by key stands for.
-use Rattle.std.specs.Prelude.{◌≡◌, false, List}
+use Rattle.std.specs.Prelude.{◌≡◌, false, true, List}
 use Rattle.datasets.specs.Dataset.{Dataset}
 use Rattle.datasets.specs.Entries.{Row, has_row}
 use Rattle.weighted_set.specs.declared.weighted.Change.{Change}
 use Rattle.weighted_set.specs.Changes.{applied}
 use Rattle.weighted_set.specs.Parts.{part_of}
 use Rattle.weighted_set.specs.Parts.{StoreParts, committed_part, pending_part}
+use Rattle.flow_graph.specs.Products.{changes_in_range}
 
 -- each key has its part of A
 abbrev pub ArePartsOf : (Row → Dataset) → (Row → Dataset) → Dataset → Type 0
@@ -26,10 +27,12 @@ pub record HoldSettled (left_keys right_keys : Row → Dataset) (left right : St
   pub held : HoldParts left_keys right_keys (committed_part left) (committed_part right) A B
   pub settled : AreSettled left right
 
--- the changes are pending, and only touched keys have another pending part than before
+-- the changes are pending, their products are in range, and only touched keys have another pending part than before
 pub record PutInputs (left_keys right_keys : Row → Dataset) (left right : List Change) (old_left old_right new_left new_right : StoreParts) (touched : List Row) : Type 0 where
   pub left_committed : (k : Row) → committed_part new_left k ≡ committed_part old_left k
   pub right_committed : (k : Row) → committed_part new_right k ≡ committed_part old_right k
   pub left_pending : (A : Dataset) → ArePartsOf left_keys (pending_part old_left) A → ArePartsOf left_keys (pending_part new_left) (applied A left)
   pub right_pending : (B : Dataset) → ArePartsOf right_keys (pending_part old_right) B → ArePartsOf right_keys (pending_part new_right) (applied B right)
+  pub left_products : changes_in_range left_keys left ≡ true
+  pub right_products : changes_in_range right_keys right ≡ true
   pub untouched : (k : Row) → has_row touched k ≡ false → (pending_part new_left k ≡ pending_part old_left k) × (pending_part new_right k ≡ pending_part old_right k)

@@ -1,15 +1,15 @@
 //! The engine that keeps an operator up to date key by key.
-ghost use Rattle.std.specs.Prelude.{◌≡◌, All, IfErr, IfOk, OnOk, false, true};
+ghost use Rattle.std.specs.Prelude.{◌≡◌, ◌⊎◌, All, IfErr, IfOk, OnOk, false, true};
 ghost use Rattle.datasets.specs.Dataset.{Dataset, empty};
 ghost use Rattle.datasets.specs.Entries.{Row};
 ghost use Rattle.weighted_set.specs.Changes.{IsChangeList};
 ghost use Rattle.weighted_set.specs.Standing.{MayBecome};
 ghost use Rattle.weighted_set.specs.declared.part_op.OpFault.TheVariants as fault;
 ghost use Rattle.weighted_set.specs.declared.part_op.Side.TheVariants.{Left, Right};
+ghost use Rattle.flow_graph.specs.Products.{changes_in_range};
 ghost use Rattle.flow_graph.specs.Standing.{AreSettled, HoldParts, HoldSettled, PutInputs};
 ghost use Rattle.weighted_set.specs.Parts.{committed_part, pending_part};
 
-use crate::Memory;
 use crate::inputs::{check_range, put_changes, sort_rows};
 use crate::outputs::stage_keys;
 use record_text::Row;
@@ -105,7 +105,8 @@ impl<O: PartOp> Operator for Keyed<O> {
     ghost output_in_range = { λ it. O.output_in_range it.op };
 }
 
-// Makes the changes of both inputs pending, and lists the keys whose part may change.
+// Makes the changes of both inputs pending, and lists the keys whose part may change. `Range` says that a new
+// weight times a factor of its row is out of range.
 fn put_inputs<O: PartOp, L: Ledger>(
     alloc: Global,
     op: &O,
@@ -114,10 +115,11 @@ fn put_inputs<O: PartOp, L: Ledger>(
     left: &[Change],
     right: &[Change],
     steps: &mut Steps<L>,
-) -> Result<Vec<Row>, Memory>
+) -> Result<Vec<Row>, OpFault>
     requires left_rows { All (λ c. O.TakesRow op.now Left c.row) left.now }
     requires right_rows { All (λ c. O.TakesRow op.now Right c.row) right.now }
     ensures put { IfOk result (λ touched. PutInputs (O.keys op.now Left) (O.keys op.now Right) left.now right.now left_store.old right_store.old left_store.new right_store.new touched.items) }
+    ensures range { IfErr result (λ e. e ≡ fault.Range → (changes_in_range (O.keys op.now Left) left.now ≡ false) ⊎ (changes_in_range (O.keys op.now Right) right.now ≡ false)) }
     ensures left_committed { (k : Row) → committed_part left_store.new k ≡ committed_part left_store.old k }
     ensures right_committed { (k : Row) → committed_part right_store.new k ≡ committed_part right_store.old k }
 {

@@ -4,12 +4,12 @@ ghost use Rattle.datasets.specs.Dataset.{Dataset, at, empty};
 ghost use Rattle.datasets.specs.Entries.{Row};
 ghost use Rattle.ratios.specs.Ratio.{zero_ratio};
 ghost use Rattle.weighted_set.specs.Changes.{IsChangeList};
+ghost use Rattle.weighted_set.specs.Parts.{FactoredInRange};
 ghost use Rattle.weighted_set.specs.Standing.{MayBecome};
 ghost use Rattle.weighted_set.specs.declared.part_op.OpFault.TheVariants as fault;
 ghost use Rattle.weighted_set.specs.declared.part_op.Side.TheVariants.{Left, Right};
 ghost use Rattle.flow_graph.specs.WholeInputs.{AreCommitted, ArePending, HaveSettled, IsMadeOf};
 
-use crate::Memory;
 use crate::inputs::put_changes;
 use crate::keyed::stage;
 use std::alloc::Global;
@@ -104,16 +104,18 @@ impl<O: PartOp> Operator for Whole<O> {
     ghost output_in_range = { λ it. O.output_in_range it.op };
 }
 
-// The parts of an input.
+// The parts of an input. Since each weight times each factor of its row is in range, `Range` is never answered.
 fn parts_of<O: PartOp, L: Ledger>(
     alloc: Global,
     op: &O,
     side: Side,
     input: &HeldSet,
     steps: &mut Steps<L>,
-) -> Result<PartStore, Memory>
-    requires { (x : Row) → at input.now.committed x ≢ zero_ratio → O.TakesRow op.now side x }
-    ensures { IfOk result (IsMadeOf (O.keys op.now side) input.now.committed) }
+) -> Result<PartStore, OpFault>
+    requires rows { (x : Row) → at input.now.committed x ≢ zero_ratio → O.TakesRow op.now side x }
+    requires factored { FactoredInRange (O.keys op.now side) input.now.committed }
+    ensures made { IfOk result (IsMadeOf (O.keys op.now side) input.now.committed) }
+    ensures in_range { IfErr result (λ e. e ≢ fault.Range) }
 {
     let rows = input.all_changes()?;
     let mut store = PartStore::new(alloc);

@@ -1,4 +1,7 @@
 mod ListedKeys
 mod RunningSums
-mod MadeRows
-mod SelectOutputs
+mod SummedOutputs
+mod Quotients
+mod TypedItems
+mod GivenWeights
+mod ListedShares

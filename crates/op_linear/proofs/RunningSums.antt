@@ -13,7 +13,7 @@ use Rattle.operators.specs.InRange.{all_in_range, runs_in_range}
 use Rattle.weighted_set.specs.declared.weighted.Weighted.{Weighted}
 use Rattle.weighted_set.specs.Changes.{entries_of}
 use Rattle.weighted_set.proofs.Running.{length-entries_of}
-use Rattle.op_linear.specs.Select.{checked_sum, weights_of}
+use Rattle.op_linear.specs.Summed.{checked_sum, weights_of}
 
 -- where a sum is answered, it is the sum and no running sum is out of range
 pub answered_sum : (list : List Weighted) (s : Ratio) → Some s ≡ checked_sum (weights_of list) → (runs_in_range (weights_of list) ≡ true) × (s ≡ ratio_sum (weights_of list))

@@ -8,7 +8,7 @@ use Rattle.plan_model.specs.Evaluation.{passes}
 use Rattle.plan_model.specs.declared.expr.Expr.{Expr}
 use Rattle.weighted_set.specs.declared.part_op.Side.{Side}
 use Rattle.weighted_set.specs.declared.part_op.Side.TheVariants.{Left, Right}
-use Rattle.op_linear.specs.Factors.{one_row}
+use Rattle.op_parts.specs.OneRow.{one_row}
 
 -- a filter: its test, and the columns of the rows that it takes
 pub record FilterParts : Type 0 where

@@ -16,12 +16,13 @@ use Rattle.weighted_set.specs.Parts.{FactoredInRange, part_of}
 use Rattle.weighted_set.specs.declared.part_op.Side.{Side}
 use Rattle.weighted_set.specs.declared.part_op.Side.TheVariants.{Left, Right}
 use Rattle.ratios.proofs.Products.{ratio_mul_one, ratio_mul_zero}
-use Rattle.weighted_set.proofs.Parts.{at-part_of}
+use Rattle.weighted_set.proofs.Parts.{FactoredInRange-ones, at-part_of}
 use Rattle.weighted_set.proofs.Sets.{InRange-zero}
-use Rattle.op_linear.specs.Factors.{FactoredInRange-ones, at-one_row, factor-in_part, one_row, weighed_row}
+use Rattle.op_parts.specs.OneRow.{one_row}
+use Rattle.op_parts.specs.Takes.{HasOnly}
+use Rattle.op_parts.proofs.OneRows.{at-one_row, factor-in_part, weighed_row}
+use Rattle.op_parts.proofs.Ranges.{weights_in_range-all}
 use Rattle.op_linear.specs.Filter.{FilterParts, filter_keys}
-use Rattle.op_linear.specs.Ranges.{weights_in_range-all}
-use Rattle.op_linear.specs.Takes.{HasOnly}
 
 -- a factor other than 0 is that of the row itself, which passes
 pub factor_is_own : (op : FilterParts) (x k : Row) → at (filter_keys op Left x) k ≢ zero_ratio → (at (filter_keys op Left x) k ≡ one_ratio) × (x ≡ k)
@@ -55,6 +56,6 @@ filtered_in_range test A h z =
 pub filter_fits_by_part : (op : FilterParts) (A B : Dataset) → AllInRange A → AllInRange B →
     (weights_in_range (filtered (passes op.test) A) ≡ true) ↔ (FactoredInRange (filter_keys op Left) A × FactoredInRange (filter_keys op Right) B × ((k : Row) → true ≡ true))
 filter_fits_by_part op A B a b = (
-  λ _. (FactoredInRange-ones (filter_keys op Left) A (filter_factors op Left) a, FactoredInRange-ones (filter_keys op Right) B (filter_factors op Right) b, λ _. refl),
+  λ _. (FactoredInRange-ones (filter_keys op Left) (filter_factors op Left) InRange-zero A a, FactoredInRange-ones (filter_keys op Right) (filter_factors op Right) InRange-zero B b, λ _. refl),
   λ _. weights_in_range-all (filtered (passes op.test) A) (filtered_in_range (passes op.test) A a),
 )

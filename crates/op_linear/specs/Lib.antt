@@ -1,9 +1,9 @@
-pub mod Members
-pub mod Factors
-pub mod Ranges
-pub mod Takes
 pub mod Filter
 pub mod FilterLaws
+pub mod Summed
 pub mod Select
 pub mod Sums
 pub mod SelectLaws
+pub mod Many
+pub mod ManyLaws
+pub mod Shares

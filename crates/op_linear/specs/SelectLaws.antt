@@ -17,22 +17,25 @@ use Rattle.weighted_set.specs.Held.{AllInRange}
 use Rattle.weighted_set.specs.Parts.{FactoredInRange, part_of}
 use Rattle.weighted_set.specs.declared.part_op.Side.{Side}
 use Rattle.weighted_set.specs.declared.part_op.Side.TheVariants.{Left, Right}
-use Rattle.op_linear.specs.Factors.{FactoredInRange-ones, at-one_row, weighed_row}
-use Rattle.op_linear.specs.Ranges.{AllInRange-tested, weights_in_range-all}
-use Rattle.op_linear.specs.Select.{SelectParts, select_fits, select_keys, select_outputs, sums_in_range, weights}
+use Rattle.op_parts.proofs.OneRows.{at-one_row, weighed_row}
+use Rattle.op_parts.proofs.Ranges.{AllInRange-tested, weights_in_range-all}
+use Rattle.weighted_set.proofs.Parts.{FactoredInRange-ones}
+use Rattle.weighted_set.proofs.Sets.{InRange-zero}
+use Rattle.op_linear.specs.Select.{SelectParts, select_fits, select_keys}
+use Rattle.op_linear.specs.Summed.{summed, sums_in_range, weights}
 use Rattle.op_linear.specs.Sums.{runs-tested, select_in_range-everywhere, sum_in_range, weights-part}
 
 pub select_factors : (op : SelectParts) (side : Side) (x k : Row) → at (select_keys op side x) k ≢ zero_ratio → at (select_keys op side x) k ≡ one_ratio
 select_factors op Left x k h = (weighed_row (row_of op.row x) one_ratio k h).0
 select_factors op Right x k h = absurd (h (at-empty k))
 
-pub select_owned : (k : Row) (A : Dataset) (z : Row) → at (select_outputs k A) z ≢ zero_ratio → z ≡ k
-select_owned k A z h = (weighed_row k (ratio_sum (weights A)) z h).1
+pub summed_owned : (k : Row) (A : Dataset) (z : Row) → at (summed k A) z ≢ zero_ratio → z ≡ k
+summed_owned k A z h = (weighed_row k (ratio_sum (weights A)) z h).1
 
 at-selected : (op : SelectParts) (A : Dataset) (z : Row) → at (selected (row_of op.row) A) z ≡ ratio_sum (select_terms (row_of op.row) A z)
 at-selected op A z = at-gathered (row_of op.row) (at A) (rows A) z
 
-pub select_together : (op : SelectParts) (A : Dataset) (z : Row) → at (selected (row_of op.row) A) z ≡ at (select_outputs z (part_of (select_keys op Left) z A)) z
+pub select_together : (op : SelectParts) (A : Dataset) (z : Row) → at (selected (row_of op.row) A) z ≡ at (summed z (part_of (select_keys op Left) z A)) z
 select_together op A z =
     let sum = ratio_sum (weights (part_of (select_keys op Left) z A)) in
     at-selected op A z
@@ -43,7 +46,7 @@ pub select_fits_by_part : (op : SelectParts) (A B : Dataset) → AllInRange A �
     (select_fits op A ≡ true) ↔
     (FactoredInRange (select_keys op Left) A × FactoredInRange (select_keys op Right) B × ((k : Row) → sums_in_range (part_of (select_keys op Left) k A) ≡ true))
 select_fits_by_part op A B a b = (
-  λ fits. (FactoredInRange-ones (select_keys op Left) A (select_factors op Left) a, FactoredInRange-ones (select_keys op Right) B (select_factors op Right) b, parts fits),
+  λ fits. (FactoredInRange-ones (select_keys op Left) (select_factors op Left) InRange-zero A a, FactoredInRange-ones (select_keys op Right) (select_factors op Right) InRange-zero B b, parts fits),
   λ h. whole h.2,
 )
   where

@@ -1,70 +1,51 @@
 -- The weights of the part of a select at a key, and their sums.
 use Rattle.std.specs.Prelude.{◌≡◌, Bool, true, false, not, cond, filter, fold, List, [], ◌∷◌, map, refl}
-use Rattle.std.specs.List.{AllByRecursion}
-use Rattle.std.proofs.Common.{sym, ap, subst, ◌∙◌}
+use Rattle.std.proofs.Common.{ap, ap₂, ◌∙◌}
 use Rattle.std.proofs.lemmas.Bool.{and_parts, or_parts}
 use Rattle.ratios.specs.Range.{InRange}
 use Rattle.ratios.specs.Ratio.{Ratio, one_ratio, ratio_add, ratio_mul, zero_ratio}
 use Rattle.ratios.specs.Sums.{ratio_sum, running_sums_after}
+use Rattle.ratios.proofs.Products.{ratio_mul_one}
 use Rattle.datasets.specs.Dataset.{Dataset, at, rows}
-use Rattle.datasets.specs.Entries.{AreRising, Entries, NoneZero, Row, has_row, is_zero, rows_of, same_row}
+use Rattle.datasets.specs.Entries.{Row, has_row, is_zero, same_row}
 use Rattle.datasets.specs.Kept.{is_zero-zero_ratio}
-use Rattle.datasets.proofs.Counts.{entries-dataset_of, weighing}
-use Rattle.datasets.proofs.Rows.{is_zero-other}
 use Rattle.operators.specs.InRange.{all_in_range, runs_in_range, select_in_range}
 use Rattle.operators.specs.Operators.{select_terms}
 use Rattle.operators.specs.Weights.{weights_for}
-use Rattle.operators.proofs.Gathered.{weights_for-map}
-use Rattle.operators.proofs.Members.{AllByRecursion-filter}
-use Rattle.weighted_set.proofs.Parts.{entries_have_weights}
 use Rattle.weighted_set.specs.Parts.{part_of}
-use Rattle.ratios.proofs.Products.{ratio_mul_one, ratio_mul_zero}
 use Rattle.weighted_set.proofs.Sets.{InRange-zero}
-use Rattle.op_linear.specs.Factors.{at-one_row, one_row}
-use Rattle.op_linear.specs.Members.{AllByRecursion-from_list_all, at-member, list_all-everywhere}
-use Rattle.op_linear.specs.Select.{weights}
-
-map_same : {X Y : Type 0} (f g : X → Y) (xs : List X) → AllByRecursion (λ x. f x ≡ g x) xs → map f xs ≡ map g xs
-map_same f g [] h = refl
-map_same f g (x ∷ xs) h = λ i. h.0 i ∷ map_same f g xs h.1 i
+use Rattle.op_parts.specs.OneRow.{one_row}
+use Rattle.op_parts.proofs.Members.{AllByRecursion-from_list_all, at-member, list_all-everywhere}
+use Rattle.op_parts.proofs.OneRows.{at-one_row, is_zero-one_ratio}
+use Rattle.op_parts.proofs.PartEntries.{weights-part_of}
+use Rattle.op_linear.specs.Summed.{weights}
 
 -- ---- the weights of a part
 
-module _ (f : Row → Row) (z : Row) where
-  abbrev factored : Row × Ratio → Row × Ratio
-  factored e = (e.0, ratio_mul e.1 (at (one_row (f e.0) one_ratio) z))
+module _ (f : Row → Row) (z : Row) (A : Dataset) where
+  -- the row's factor at the key z
+  abbrev factor_of : Row → Ratio
+  factor_of x = at (one_row (f x) one_ratio) z
 
-  abbrev gives : Row × Ratio → Bool
-  gives e = same_row z (f e.0)
+  abbrev share : Row → Ratio
+  share x = ratio_mul (at A x) (factor_of x)
 
-  factored_weight : (e : Row × Ratio) → ratio_mul e.1 (at (one_row (f e.0) one_ratio) z) ≡ cond (gives e) e.1 zero_ratio
-  factored_weight e = ap (ratio_mul e.1) (at-one_row (f e.0) one_ratio z) ∙ one_or_none (gives e)
-    where
-      one_or_none : (b : Bool) → ratio_mul e.1 (cond b one_ratio zero_ratio) ≡ cond b e.1 zero_ratio
-      one_or_none true = ratio_mul_one e.1
-      one_or_none false = ratio_mul_zero e.1
+  whole_share : (x : Row) → same_row z (f x) ≡ true → share x ≡ at A x
+  whole_share x p = ap (ratio_mul (at A x)) (at-one_row (f x) one_ratio z ∙ ap (λ b. cond b one_ratio zero_ratio) p) ∙ ratio_mul_one (at A x)
 
-  kept_weights : (es : Entries) → NoneZero es → map (λ e. e.1) (weighing (map factored es)) ≡ map (λ e. e.1) (filter gives es)
-  kept_weights [] h = refl
-  kept_weights (e ∷ es) h =
-      let rest = weighing (map factored es) in
-      ap (λ w. map (λ (e : Row × Ratio). e.1) (cond (not (is_zero w)) ((e.0, w) ∷ rest) rest)) (factored_weight e)
-      ∙ elim (gives e) as (λ b. map (λ (e : Row × Ratio). e.1) (cond (not (is_zero (cond b e.1 zero_ratio))) ((e.0, cond b e.1 zero_ratio) ∷ rest) rest) ≡ map (λ (e : Row × Ratio). e.1) (cond b (e ∷ filter gives es) (filter gives es))) [
-        | true ↦ ap (λ b. map (λ (e : Row × Ratio). e.1) (cond (not b) ((e.0, e.1) ∷ rest) rest)) (is_zero-other e.1 h.0) ∙ ap (λ ws. e.1 ∷ ws) (kept_weights es h.1)
-        | false ↦ ap (λ b. map (λ (e : Row × Ratio). e.1) (cond (not b) ((e.0, zero_ratio) ∷ rest) rest)) is_zero-zero_ratio ∙ kept_weights es h.1
-      ]
-
-  rows_of-factored : (es : Entries) → rows_of (map factored es) ≡ rows_of es
-  rows_of-factored [] = refl
-  rows_of-factored (e ∷ es) = ap (λ xs. e.0 ∷ xs) (rows_of-factored es)
+  shares_for : (xs : List Row) → map share (filter (λ x. not (is_zero (factor_of x))) xs) ≡ weights_for f (at A) xs z
+  shares_for [] = refl
+  shares_for (x ∷ xs) =
+      let kept = filter (λ x. not (is_zero (factor_of x))) xs in
+      ap (λ w. map share (cond (not (is_zero w)) (x ∷ kept) kept)) (at-one_row (f x) one_ratio z)
+      ∙ elim (same_row z (f x)) as (λ b. same_row z (f x) ≡ b → map share (cond (not (is_zero (cond b one_ratio zero_ratio))) (x ∷ kept) kept) ≡ map (at A) (cond b (x ∷ filter (λ x. same_row z (f x)) xs) (filter (λ x. same_row z (f x)) xs))) [
+        | true ↦ λ p. ap (λ b. map share (cond (not b) (x ∷ kept) kept)) is_zero-one_ratio ∙ ap₂ (λ w ws. w ∷ ws) (whole_share x p) (shares_for xs)
+        | false ↦ λ p. ap (λ b. map share (cond (not b) (x ∷ kept) kept)) is_zero-zero_ratio ∙ shares_for xs
+      ] refl
 
   -- they are the weights of the rows that give the key, in row order
-  pub weights-part : (A : Dataset) → weights (part_of (λ x. one_row (f x) one_ratio) z A) ≡ select_terms f A z
-  weights-part A =
-      ap (λ es. map (λ e. e.1) es) (entries-dataset_of (map factored A.entries) (subst AreRising (sym (rows_of-factored A.entries)) A.rising))
-      ∙ kept_weights A.entries A.none_zero
-      ∙ map_same (λ e. e.1) (λ e. at A e.0) (filter gives A.entries) (AllByRecursion-filter (λ e. e.1 ≡ at A e.0) gives A.entries (entries_have_weights A.entries A.rising))
-      ∙ sym (weights_for-map f (at A) (λ e. e.0) A.entries z)
+  pub weights-part : weights (part_of (λ x. one_row (f x) one_ratio) z A) ≡ select_terms f A z
+  weights-part = weights-part_of (λ x. one_row (f x) one_ratio) z A ∙ shares_for (rows A)
 
 -- ---- sums
 

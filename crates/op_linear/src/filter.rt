@@ -8,15 +8,15 @@ ghost use Rattle.plan_model.specs.Values.{is_typed, term_of};
 ghost use Rattle.record_text.specs.KindLists.{kinds_of};
 ghost use Rattle.record_text.specs.declared.kinds.Kind.TheVariants as kind;
 ghost use Rattle.op_linear.specs.Filter.{filter_keys};
-ghost use Rattle.op_linear.specs.FilterLaws.{filter_factors, filter_fits_by_part, filter_takes_part, filter_together};
-ghost use Rattle.op_linear.specs.Ranges.{AllInRange-tested};
-ghost use Rattle.op_linear.specs.Takes.{HasOnly, LeftHasColumns, takes_row};
+ghost use Rattle.op_linear.specs.FilterLaws.{filter_fits_by_part, filter_takes_part, filter_together};
+ghost use Rattle.op_parts.specs.Takes.{HasOnly, LeftHasColumns};
+ghost use Rattle.op_parts.proofs.Ranges.{AllInRange-tested};
+ghost use Rattle.op_parts.proofs.Takes.{takes_row};
 
-use crate::lists::{push_row, push_rows, tick_each};
 use frac_core::Frac;
+use op_parts::{passes, push_row, push_rows, tick_each};
 use plan_model::Expr;
-use record_text::{Atom, Kinds, Row};
-use std::alloc::Global;
+use record_text::{Kinds, Row};
 use std::marker::Model;
 use std::sync::ledger::Ledger;
 use steps::Steps;
@@ -56,16 +56,6 @@ impl FilterOp {
     {
         FilterOp { test, cols }
     }
-
-    fn passes(&self, alloc: Global, row: &Row) -> Result<bool, Memory>
-        requires { kinds_of row.now ≡ self.now.cols }
-        ensures { IfOk result (λ is_kept. is_kept ≡ passes self.now.test row.now) }
-    {
-        match self.test.eval(alloc, row)? {
-            Atom::Int(number) => Ok(number != 0),
-            Atom::Text(_) => Ok(true),
-        }
-    }
 }
 
 impl PartOp for FilterOp {
@@ -91,7 +81,7 @@ impl PartOp for FilterOp {
         into.clear();
         match side {
             Side::Left => {
-                if self.passes(*into.allocator(), row)? {
+                if passes(*into.allocator(), &self.test, row)? {
                     push_row(row, Frac::one(), into)?;
                 }
                 Ok(())
@@ -119,8 +109,6 @@ impl PartOp for FilterOp {
             }
         }
     }
-
-    ghost factors_are_one = { filter_factors };
 
     ghost outputs_are_owned = { λ op k A B z taken weighed. taken z weighed };
 

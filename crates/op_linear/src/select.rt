@@ -5,12 +5,15 @@ ghost use Rattle.plan_model.specs.Acceptance.{have_kinds};
 ghost use Rattle.plan_model.specs.Evaluation.{row_of};
 ghost use Rattle.plan_model.specs.Types.{HasColumns};
 ghost use Rattle.record_text.specs.KindLists.{kinds_of};
-ghost use Rattle.op_linear.specs.Select.{select_fits, select_keys, select_outputs, sums_in_range};
-ghost use Rattle.op_linear.specs.SelectLaws.{select_factors, select_fits_by_part, select_output_in_range, select_owned, select_together};
-ghost use Rattle.op_linear.specs.Takes.{LeftHasColumns, takes_row};
+ghost use Rattle.op_linear.specs.Select.{select_fits, select_keys};
+ghost use Rattle.op_linear.specs.SelectLaws.{select_fits_by_part, select_output_in_range, select_together, summed_owned};
+ghost use Rattle.op_linear.specs.Summed.{summed, sums_in_range};
+ghost use Rattle.op_parts.specs.Takes.{LeftHasColumns};
+ghost use Rattle.op_parts.proofs.Takes.{takes_row};
 
-use crate::lists::{is_zero, push_row, sum_of, tick_each};
+use crate::sums::list_sum;
 use frac_core::Frac;
+use op_parts::{made_row, push_row, tick_each};
 use plan_model::Exprs;
 use record_text::{Kinds, Row};
 use std::alloc::Global;
@@ -52,18 +55,6 @@ impl SelectOp {
     {
         SelectOp { row, cols, alloc }
     }
-
-    fn row_of(&self, row: &Row) -> Result<Row, Memory>
-        requires { kinds_of row.now ≡ self.now.cols }
-        ensures { IfOk result (λ made. made ≡ row_of self.now.row row.now) }
-    {
-        let mut atoms = Vec::with_capacity(self.alloc, self.row.len())?;
-        for at in 0..self.row.len() {
-            let atom = self.row.at(at).eval(self.alloc, row)?;
-            atoms.push(atom)?;
-        }
-        Ok(Row::from_atoms(atoms))
-    }
 }
 
 impl PartOp for SelectOp {
@@ -71,7 +62,7 @@ impl PartOp for SelectOp {
 
     ghost owner = { λ op z. z };
 
-    ghost outputs = { λ op k A B. select_outputs k A };
+    ghost outputs = { λ op k A B. summed k A };
 
     ghost part_fits = { λ op k A B. sums_in_range A };
 
@@ -89,7 +80,7 @@ impl PartOp for SelectOp {
         into.clear();
         match side {
             Side::Left => {
-                let key = self.row_of(row)?;
+                let key = made_row(self.alloc, &self.row, row)?;
                 push_row(&key, Frac::one(), into)?;
                 Ok(())
             }
@@ -105,21 +96,12 @@ impl PartOp for SelectOp {
         into: &mut Vec<Weighted>,
         steps: &mut Steps<L>,
     ) -> Result<(), OpFault> {
-        into.clear();
         tick_each(left, steps);
         tick_each(right, steps);
-        let Some(sum) = sum_of(left) else {
-            return Err(OpFault::Range);
-        };
-        if !is_zero(sum) {
-            push_row(key, sum, into)?;
-        }
-        Ok(())
+        list_sum(key, left, into)
     }
 
-    ghost factors_are_one = { select_factors };
-
-    ghost outputs_are_owned = { λ op k A B z taken weighed. select_owned k A z weighed };
+    ghost outputs_are_owned = { λ op k A B z taken weighed. summed_owned k A z weighed };
 
     ghost together = { λ op A B z taken. select_together op A z };
 

@@ -13,7 +13,7 @@ use Rattle.weighted_set.specs.declared.part_op.Side.TheVariants.{Left}
 use Rattle.weighted_set.specs.declared.weighted.Weighted.{Weighted}
 use Rattle.op_linear.specs.Filter.{FilterParts, filter_keys}
 use Rattle.op_linear.specs.FilterLaws.{factor_is_own}
-use Rattle.op_linear.specs.Takes.{HasOnly}
+use Rattle.op_parts.specs.Takes.{HasOnly}
 
 -- one entry more
 pub entries-more : (es : Entries) (list : List Weighted) (i : ℕ) (x : Row) (w : Ratio) → entries_of list ≡ take i es → slice_get es i ≡ Some (x, w) → (e : Weighted) → e.row ≡ x → e.weight ≡ w → entries_of (list ++ e ∷ []) ≡ take (i + 1) es

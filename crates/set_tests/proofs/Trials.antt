@@ -12,7 +12,7 @@ use Rattle.datasets.proofs.Weights.{at-set_at}
 use Rattle.datasets.specs.Dataset.{Dataset, at, empty, rows, set_at}
 use Rattle.datasets.specs.Entries.{Row, same_row}
 use Rattle.operators.proofs.SingleWeights.{AllByRecursion-has_row}
-use Rattle.op_linear.specs.Members.{at-weighed}
+use Rattle.op_parts.proofs.Members.{at-weighed}
 use Rattle.op_linear.specs.Select.{SelectParts, select_fits}
 use Rattle.plan_model.proofs.TypedSteps.{IsTyped-empty}
 use Rattle.plan_model.specs.Evaluation.{Family, dataset_at}

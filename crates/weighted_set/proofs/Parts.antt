@@ -12,7 +12,7 @@ use Rattle.datasets.specs.Dataset.{Dataset, at, rows, empty, set_at, dataset_of}
 use Rattle.datasets.specs.Entries.{Row, Entries, AreRising, NoneZero, rows_of, has_row, is_zero, same_row, weight_in}
 use Rattle.datasets.proofs.Equality.{same_weights, dataset_of-entries}
 use Rattle.datasets.proofs.Rows.{different_if_less, same_row-equal, same_row-itself, same_row-turned, zero_if_is_zero, other_if_not_is_zero}
-use Rattle.datasets.proofs.Weights.{at-absent, at-dataset_of, at-empty, at-set_at, weight_in-cons}
+use Rattle.datasets.proofs.Weights.{at-dataset_of, at-empty, at-set_at, weight_in-cons}
 use Rattle.weighted_set.specs.declared.weighted.Weighted.{Weighted}
 use Rattle.weighted_set.specs.Changes.{entries_of}
 use Rattle.weighted_set.specs.Held.{AllInRange}
@@ -75,38 +75,26 @@ part_of-empty keys k =
     same_weights (part_of keys k empty) empty (λ x.
     at-part_of keys k empty x ∙ ap (λ w. ratio_mul w (at (keys x) k)) (at-empty x) ∙ ratio_zero_mul (at (keys x) k) ∙ sym (at-empty x))
 
-module _ (keys : Row → Dataset) (ones : (x k : Row) → at (keys x) k ≢ zero_ratio → at (keys x) k ≡ one_ratio) where
-  -- a row's weight is set in the part of each key of the row, and in no other
-  pub part_of-set_at : (k x : Row) (w : Ratio) (A : Dataset) → part_of keys k (set_at x w A) ≡ cond (has_row (rows (keys x)) k) (set_at x w (part_of keys k A)) (part_of keys k A)
-  part_of-set_at k x w A =
-      elim (has_row (rows (keys x)) k) as (λ b. has_row (rows (keys x)) k ≡ b → part_of keys k (set_at x w A) ≡ cond b (set_at x w (part_of keys k A)) (part_of keys k A)) [
-        | true ↦ λ p. same_weights (part_of keys k (set_at x w A)) (set_at x w (part_of keys k A)) (λ y.
-            let one = ones x k (at-present (keys x) k p) in
-            at-part_of keys k (set_at x w A) y ∙ ap (λ v. ratio_mul v (at (keys y) k)) (at-set_at x w A y)
-            ∙ (elim (same_row y x) as (λ b. same_row y x ≡ b → ratio_mul (cond b w (at A y)) (at (keys y) k) ≡ cond b w (at (part_of keys k A) y)) [
-              | true ↦ λ q. ap (λ z. ratio_mul w (at (keys z) k)) (same_row-equal y x q) ∙ ap (ratio_mul w) one ∙ ratio_mul_one w
-              | false ↦ λ q. sym (at-part_of keys k A y)
-            ] refl)
-            ∙ sym (at-set_at x w (part_of keys k A) y))
-        | false ↦ λ p. same_weights (part_of keys k (set_at x w A)) (part_of keys k A) (λ y.
-            let none = at-absent (keys x) k p in
-            at-part_of keys k (set_at x w A) y ∙ ap (λ v. ratio_mul v (at (keys y) k)) (at-set_at x w A y)
-            ∙ (elim (same_row y x) as (λ b. same_row y x ≡ b → ratio_mul (cond b w (at A y)) (at (keys y) k) ≡ ratio_mul (at A y) (at (keys y) k)) [
-              | true ↦ λ q.
-                  let here : at (keys y) k ≡ zero_ratio = ap (λ z. at (keys z) k) (same_row-equal y x q) ∙ none in
-                  ap (ratio_mul w) here ∙ ratio_mul_zero w ∙ sym (ratio_mul_zero (at A y)) ∙ ap (ratio_mul (at A y)) (sym here)
-              | false ↦ λ q. refl
-            ] refl)
-            ∙ sym (at-part_of keys k A y))
-      ] refl
+-- a row's weight, times its factor at the key, is set in the part of each key
+pub part_of-set_at : (keys : Row → Dataset) (k x : Row) (w : Ratio) (A : Dataset) → part_of keys k (set_at x w A) ≡ set_at x (ratio_mul w (at (keys x) k)) (part_of keys k A)
+part_of-set_at keys k x w A =
+    same_weights (part_of keys k (set_at x w A)) (set_at x (ratio_mul w (at (keys x) k)) (part_of keys k A)) (λ y.
+    at-part_of keys k (set_at x w A) y
+    ∙ ap (λ v. ratio_mul v (at (keys y) k)) (at-set_at x w A y)
+    ∙ chosen y (same_row y x) (same_row-equal y x)
+    ∙ sym (at-set_at x (ratio_mul w (at (keys x) k)) (part_of keys k A) y))
+  where
+    chosen : (y : Row) (b : Bool) → (b ≡ true → y ≡ x) → ratio_mul (cond b w (at A y)) (at (keys y) k) ≡ cond b (ratio_mul w (at (keys x) k)) (at (part_of keys k A) y)
+    chosen y true same = ap (λ z. ratio_mul w (at (keys z) k)) (same refl)
+    chosen y false same = sym (at-part_of keys k A y)
 
-  -- weights in range stay there once factored
-  pub FactoredInRange-ones : InRange zero_ratio → (A : Dataset) → AllInRange A → FactoredInRange keys A
-  FactoredInRange-ones z A h x k =
-      elim (is_zero (at (keys x) k)) as (λ b. is_zero (at (keys x) k) ≡ b → InRange (ratio_mul (at A x) (at (keys x) k))) [
-        | true ↦ λ p. subst InRange (sym (ap (ratio_mul (at A x)) (zero_if_is_zero (at (keys x) k) p) ∙ ratio_mul_zero (at A x))) z
-        | false ↦ λ p. subst InRange (sym (ap (ratio_mul (at A x)) (ones x k (other_if_not_is_zero (at (keys x) k) p)) ∙ ratio_mul_one (at A x))) (h x)
-      ] refl
+-- weights in range stay there once factored, where each factor is 1
+pub FactoredInRange-ones : (keys : Row → Dataset) → ((x k : Row) → at (keys x) k ≢ zero_ratio → at (keys x) k ≡ one_ratio) → InRange zero_ratio → (A : Dataset) → AllInRange A → FactoredInRange keys A
+FactoredInRange-ones keys ones z A h x k =
+    elim (is_zero (at (keys x) k)) as (λ b. is_zero (at (keys x) k) ≡ b → InRange (ratio_mul (at A x) (at (keys x) k))) [
+      | true ↦ λ p. subst InRange (sym (ap (ratio_mul (at A x)) (zero_if_is_zero (at (keys x) k) p) ∙ ratio_mul_zero (at A x))) z
+      | false ↦ λ p. subst InRange (sym (ap (ratio_mul (at A x)) (ones x k (other_if_not_is_zero (at (keys x) k) p)) ∙ ratio_mul_one (at A x))) (h x)
+    ] refl
 
 -- ---- lists of a dataset's entries
 pub listed-entries : (list : List Weighted) (A : Dataset) → entries_of list ≡ A.entries → listed list ≡ A

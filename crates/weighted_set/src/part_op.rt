@@ -2,7 +2,7 @@
 ghost use Rattle.std.specs.Prelude.{◌≡◌, ◌≢◌, ◌+◌, ◌↔◌, [], Bool, IfErr, OnErr, OnOk, false, length, true};
 ghost use Rattle.datasets.specs.Dataset.{Dataset, at};
 ghost use Rattle.datasets.specs.Entries.{Row};
-ghost use Rattle.ratios.specs.Ratio.{one_ratio, zero_ratio};
+ghost use Rattle.ratios.specs.Ratio.{zero_ratio};
 ghost use Rattle.weighted_set.specs.Changes.{entries_of};
 ghost use Rattle.weighted_set.specs.Held.{AllInRange};
 ghost use Rattle.weighted_set.specs.Parts.{FactoredInRange, IsListed, listed, part_of};
@@ -95,9 +95,6 @@ pub trait PartOp {
         ensures range { IfErr result (λ e. e ≡ fault.Range → part_fits self.now key.now (listed left.now) (listed right.now) ≡ false) }
         ensures err { OnErr result (into.new.items ≡ []) }
         ensures steps { steps.new ≡ steps.old + (length left.now + length right.now) };
-
-    /// Each factor is 1.
-    ghost factors_are_one: { (op : Self) (side : Side) (x k : Row) → at (keys op side x) k ≢ zero_ratio → at (keys op side x) k ≡ one_ratio };
 
     /// Outputs of different keys are different rows.
     ghost outputs_are_owned: { (op : Self) (k : Row) (A B : Dataset) (z : Row) → TakesPart op k A B → at (outputs op k A B) z ≢ zero_ratio → owner op z ≡ k };

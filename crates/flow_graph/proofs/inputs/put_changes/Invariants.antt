@@ -1,7 +1,8 @@
-use Rattle.std.proofs.Common.{◌≡◌, false, take}
+use Rattle.std.proofs.Common.{◌≡◌, false, true, take}
 use Rattle.datasets.specs.Dataset.{Dataset}
 use Rattle.datasets.specs.Entries.{Row, has_row}
 use Rattle.weighted_set.specs.Changes.{applied}
+use Rattle.flow_graph.specs.Products.{changes_in_range}
 use Rattle.flow_graph.specs.Standing.{ArePartsOf}
 use Rattle.weighted_set.specs.Parts.{committed_part, pending_part}
 use Rattle.flow_graph.proofs.inputs.put_changes.Given as goal
@@ -11,4 +12,5 @@ invariant-loop-change g l = record {
   committed : (k : Row) → committed_part l.store k ≡ committed_part l.fn.store k;
   pending : (A : Dataset) → ArePartsOf (g.O.PartOp.keys l.op l.side) (pending_part l.fn.store) A → ArePartsOf (g.O.PartOp.keys l.op l.side) (pending_part l.store) (applied A (take l.change-index l.changes));
   touched : (k : Row) → has_row l.touched.items k ≡ false → (has_row l.fn.touched.items k ≡ false) × (pending_part l.store k ≡ pending_part l.fn.store k);
+  fits : changes_in_range (g.O.PartOp.keys l.op l.side) (take l.change-index l.changes) ≡ true;
 }

@@ -1,6 +1,6 @@
 use Rattle.std.proofs.lemmas.Result.{err_from_is_err_and}
 use Rattle.weighted_set.specs.declared.part_op.Side.TheVariants.{Left, Right}
-use Rattle.flow_graph.proofs.Engine.{Laws, engine_step, fit_before, fits_after, held_after, misfits_after, rows_of_changes, taken_after, taken_before}
+use Rattle.flow_graph.proofs.Engine.{Laws, engine_step, fit_before, fits_after, held_after, misfits_after, misfits_put, rows_of_changes, taken_after, taken_before}
 use Rattle.flow_graph.proofs.keyed.stage.Given.{Over}
 use Rattle.flow_graph.proofs.keyed.stage.Goals as goal
 
@@ -8,7 +8,7 @@ laws : (g : Over) (op : g.row.O.Denot) →
     Laws (g.O.PartOp.keys op Left) (g.O.PartOp.keys op Right) (g.O.PartOp.owner op) (g.O.PartOp.outputs op) (g.O.PartOp.part_fits op) (g.O.PartOp.output op) (g.O.PartOp.fits op) (g.O.PartOp.Takes op) (g.O.PartOp.TakesPart op)
 laws g op =
     let met = g.met.O.PartOp in
-    record { left_ones = met.factors_are_one op Left; right_ones = met.factors_are_one op Right; together = met.together op; by_part = met.fits_by_part op; takes_parts = met.takes_parts op }
+    record { together = met.together op; by_part = met.fits_by_part op; takes_parts = met.takes_parts op }
 
 pub put_inputs-requires-clause-left_rows : goal.put_inputs-requires-clause-left_rows
 put_inputs-requires-clause-left_rows g c =
@@ -31,6 +31,11 @@ pub stage_keys-requires-clause-after : goal.stage_keys-requires-clause-after
 stage_keys-requires-clause-after g c =
     let r = c.requires in
     taken_after (laws g c.args.op.now) c.in_ok-touched.ensures.put r.0 r.1.0 r.1.1.0 r.1.1.1.0 r.1.1.1.1
+
+pub returns-in_err-touched-clause-range : goal.returns-in_err-touched-clause-range
+returns-in_err-touched-clause-range g c =
+    let p = err_from_is_err_and c.from_residual.result c.from_residual.ensures.1 in
+    rw (p.1, p.2) (λ e A B C D m. misfits_put (laws g c.args.op.now) A B C D m (c.check_range.ensures A m.left_in_range) (c.check_range-2.ensures B m.right_in_range) (c.in_err-touched.ensures.range e))
 
 pub returns-in_err-table-clause-range : goal.returns-in_err-table-clause-range
 returns-in_err-table-clause-range g c =

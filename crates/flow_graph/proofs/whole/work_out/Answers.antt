@@ -1,7 +1,8 @@
 use Rattle.std.proofs.Common.{ap, ◌∙◌}
-use Rattle.std.proofs.lemmas.Result.{IfErr-weaker, IfOk-weaker, on_ok_weaker}
+use Rattle.std.proofs.lemmas.Result.{err_from_is_err_and, IfErr-weaker, IfOk-weaker, on_ok_weaker}
 use Rattle.datasets.specs.Dataset.{at}
-use Rattle.flow_graph.proofs.WholeInputs.{changes_of_committed, made_anew}
+use Rattle.weighted_set.specs.declared.part_op.Side.TheVariants.{Left, Right}
+use Rattle.flow_graph.proofs.WholeInputs.{changes_of_committed, factored_committed, made_anew}
 use Rattle.flow_graph.proofs.whole.work_out.Goals as goal
 
 pub prepare-requires-clause-changes : goal.prepare-requires-clause-changes
@@ -14,24 +15,46 @@ prepare-requires-2-clause-changes g c =
     let m = c.requires.inputs.1.1.1.1 in
     (changes_of_committed c.args.right.now c.args.right_input.now _ _ m.stands.right_is m.right_changes).0
 
-pub parts_of-requires : goal.parts_of-requires
-parts_of-requires g c x n =
+pub parts_of-requires-clause-rows : goal.parts_of-requires-clause-rows
+parts_of-requires-clause-rows g c x n =
     let m = c.requires.inputs.1.1.1.1 in
     (g.met.O.PartOp.takes_rows c.args.op.now _ _ x m.takes_before).0 (λ z. n (ap (λ A. at A x) (c.prepare.ensures.committed ∙ m.stands.left_is) ∙ z))
 
-pub parts_of-requires-2 : goal.parts_of-requires-2
-parts_of-requires-2 g c x n =
+pub parts_of-requires-clause-factored : goal.parts_of-requires-clause-factored
+parts_of-requires-clause-factored g c =
+    let m = c.requires.inputs.1.1.1.1 in
+    let fit = (g.met.O.PartOp.fits_by_part c.args.op.now _ _ m.takes_before m.left_in_range m.right_in_range).0 m.fits_before in
+    factored_committed (g.O.PartOp.keys c.args.op.now Left) c.requires.inputs.0 c.args.left_input.now c.prepare.new.self c.prepare.ensures.committed m.stands.left_is fit.0
+
+pub parts_of-requires-2-clause-rows : goal.parts_of-requires-2-clause-rows
+parts_of-requires-2-clause-rows g c x n =
     let m = c.requires.inputs.1.1.1.1 in
     (g.met.O.PartOp.takes_rows c.args.op.now _ _ x m.takes_before).1 (λ z. n (ap (λ A. at A x) (c.prepare-2.ensures.committed ∙ m.stands.right_is) ∙ z))
+
+pub parts_of-requires-2-clause-factored : goal.parts_of-requires-2-clause-factored
+parts_of-requires-2-clause-factored g c =
+    let m = c.requires.inputs.1.1.1.1 in
+    let fit = (g.met.O.PartOp.fits_by_part c.args.op.now _ _ m.takes_before m.left_in_range m.right_in_range).0 m.fits_before in
+    factored_committed (g.O.PartOp.keys c.args.op.now Right) c.requires.inputs.1.0 c.args.right_input.now c.prepare-2.new.self c.prepare-2.ensures.committed m.stands.right_is fit.1
 
 pub stage-requires : goal.stage-requires
 stage-requires g c =
     let r = c.requires.inputs in
-    (r.0, (r.1.0, (r.1.1.0, (r.1.1.1.0, made_anew c.in_ok-left_parts.ensures c.in_ok-right_parts.ensures c.prepare.ensures.committed c.prepare-2.ensures.committed r.1.1.1.1))))
+    (r.0, (r.1.0, (r.1.1.0, (r.1.1.1.0, made_anew c.in_ok-left_parts.ensures.made c.in_ok-right_parts.ensures.made c.prepare.ensures.committed c.prepare-2.ensures.committed r.1.1.1.1))))
+
+pub returns-in_err-left_parts-clause-range : goal.returns-in_err-left_parts-clause-range
+returns-in_err-left_parts-clause-range g c =
+    let p = err_from_is_err_and c.from_residual-in_err-left_parts.result c.from_residual-in_err-left_parts.ensures.1 in
+    rw (p.1, p.2) (λ e. absurd (c.in_err-left_parts.ensures.in_range e))
+
+pub returns-in_err-right_parts-clause-range : goal.returns-in_err-right_parts-clause-range
+returns-in_err-right_parts-clause-range g c =
+    let p = err_from_is_err_and c.from_residual-in_err-right_parts.result c.from_residual-in_err-right_parts.ensures.1 in
+    rw (p.1, p.2) (λ e. absurd (c.in_err-right_parts.ensures.in_range e))
 
 pub returns-clause-changes : goal.returns-clause-changes
 returns-clause-changes g c =
-    IfOk-weaker c.stage.result _ _ (λ changes h A B C D m. h A B C D (made_anew c.in_ok-left_parts.ensures c.in_ok-right_parts.ensures c.prepare.ensures.committed c.prepare-2.ensures.committed m)) c.stage.ensures.changes
+    IfOk-weaker c.stage.result _ _ (λ changes h A B C D m. h A B C D (made_anew c.in_ok-left_parts.ensures.made c.in_ok-right_parts.ensures.made c.prepare.ensures.committed c.prepare-2.ensures.committed m)) c.stage.ensures.changes
 
 pub returns-clause-pending : goal.returns-clause-pending
 returns-clause-pending g c =
@@ -42,8 +65,8 @@ returns-clause-pending g c =
 
 pub returns-clause-fits : goal.returns-clause-fits
 returns-clause-fits g c =
-    on_ok_weaker c.stage.result (λ h A B C D m. h A B C D (made_anew c.in_ok-left_parts.ensures c.in_ok-right_parts.ensures c.prepare.ensures.committed c.prepare-2.ensures.committed m)) c.stage.ensures.fits
+    on_ok_weaker c.stage.result (λ h A B C D m. h A B C D (made_anew c.in_ok-left_parts.ensures.made c.in_ok-right_parts.ensures.made c.prepare.ensures.committed c.prepare-2.ensures.committed m)) c.stage.ensures.fits
 
 pub returns-clause-range : goal.returns-clause-range
 returns-clause-range g c =
-    IfErr-weaker c.stage.result _ _ (λ e h range A B C D m. h range A B C D (made_anew c.in_ok-left_parts.ensures c.in_ok-right_parts.ensures c.prepare.ensures.committed c.prepare-2.ensures.committed m)) c.stage.ensures.range
+    IfErr-weaker c.stage.result _ _ (λ e h range A B C D m. h range A B C D (made_anew c.in_ok-left_parts.ensures.made c.in_ok-right_parts.ensures.made c.prepare.ensures.committed c.prepare-2.ensures.committed m)) c.stage.ensures.range

@@ -2,8 +2,9 @@
 use Rattle.std.proofs.Common.{◌++◌, [], ◌∷◌, ap, sym, ◌∙◌}
 use Rattle.plan_model.specs.Evaluation.{row_of}
 use Rattle.weighted_set.specs.Changes.{entries_of}
-use Rattle.op_linear.specs.Select.{select_keys}
-use Rattle.op_linear.proofs.ListedKeys.{entries-empty, entries-one_key}
+use Rattle.ratios.specs.Ratio.{one_ratio}
+use Rattle.op_linear.specs.Select.{SelectParts, select_keys}
+use Rattle.op_parts.proofs.OneRows.{entries-empty, entries-one_key}
 use Rattle.op_linear.proofs.select.SelectOpPartOp.touch.Goals as goal
 
 pub returns-in_ok-push_row-in-Left-clause-ok : goal.returns-in_ok-push_row-in-Left-clause-ok
@@ -13,7 +14,7 @@ returns-in_ok-push_row-in-Left-clause-ok c =
     c.in_ok-push_row-in-Left.ensures.ok
     ∙ ap (λ xs. entries_of xs ++ (c.in_ok-key-in-Left.key, c.one.result) ∷ []) c.clear.ensures.items
     ∙ ap (λ w. (c.in_ok-key-in-Left.key, w) ∷ []) c.one.ensures
-    ∙ sym (ap (λ side. (select_keys op side x).entries) c.in-Left.is ∙ entries-one_key (row_of op.row x) ∙ sym (ap (λ k. (k, _) ∷ []) c.in_ok-key-in-Left.ensures))
+    ∙ sym (ap (λ side. (select_keys op side x).entries) c.in-Left.is ∙ entries-one_key (row_of op.row x) ∙ sym (ap (λ k. (k, one_ratio) ∷ []) (c.in_ok-key-in-Left.ensures ∙ ap (λ (op : SelectParts). row_of op.row x) c.self.view_is)))
 
 pub returns-in-Right-clause-ok : goal.returns-in-Right-clause-ok
 returns-in-Right-clause-ok c =

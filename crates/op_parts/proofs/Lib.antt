@@ -1,0 +1,6 @@
+pub mod Members
+pub mod Ranges
+pub mod OneRows
+pub mod PartEntries
+pub mod Takes
+mod MadeRows
