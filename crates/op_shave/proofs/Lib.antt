@@ -1,0 +1,7 @@
+mod Differences
+mod Above
+mod Walks
+mod RunPieces
+mod Collected
+mod OneShaved
+mod OwnParts

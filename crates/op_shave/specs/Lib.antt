@@ -1,0 +1,4 @@
+pub mod Shave
+pub mod Shavings
+pub mod Cells
+pub mod ShaveLaws

@@ -1,0 +1,133 @@
+//! The pieces of a weight, one after another.
+ghost use Rattle.std.specs.Prelude.{◌≡◌, ◌+◌, ◌≤◌, ◌<◌, ◌++◌, [], ◌∷◌, IfErr, IfOk, IsTrue, OnOk, false, length, replicate, true};
+ghost use Rattle.std.specs.List.{list_all};
+ghost use Rattle.operators.specs.Operators.{numbered, shaved};
+ghost use Rattle.operators.specs.Weights.{is_below};
+ghost use Rattle.plan_model.specs.Evaluation.{pieces};
+ghost use Rattle.plan_model.specs.Limits.{is_run};
+ghost use Rattle.plan_model.specs.Pieces.{piece_count};
+ghost use Rattle.ratios.specs.Range.{InRange, checked};
+ghost use Rattle.ratios.specs.Ratio.{zero_ratio};
+ghost use Rattle.weighted_set.specs.Changes.{entries_of};
+ghost use Rattle.weighted_set.specs.declared.part_op.OpFault.TheVariants as fault;
+ghost use Rattle.op_parts.specs.OneRow.{one_row};
+ghost use Rattle.op_shave.specs.Shave.{shave_fits};
+ghost use Rattle.op_shave.specs.Shavings.{AreShaved, left_in_range, left_of};
+
+use frac_core::Frac;
+use plan_model::{Run, Runs};
+use record_text::{Atom, Row};
+use std::alloc::Global;
+use weighted_set::{Memory, OpFault, Weighted};
+
+// Whether something is left of a weight.
+fn is_above_zero(weight: Frac) -> bool
+    ensures value { result ≡ is_below zero_ratio weight }
+    ensures in_range { InRange weight }
+{
+    // Tells that the weight is in range.
+    let _numerator = weight.numer();
+    Frac::zero() < weight
+}
+
+// What is left of a weight above 0 once a piece is taken off it: 0 where nothing is, and `None` where it is
+// out of range.
+fn left_of(weight: Frac, piece: Frac) -> Option<Frac>
+    requires { is_below zero_ratio weight ≡ true }
+    ensures { result ≡ checked (left_of weight piece) }
+{
+    if piece < weight {
+        weight.sub(piece)
+    } else {
+        Some(Frac::zero())
+    }
+}
+
+// The row followed by a place.
+fn numbered(alloc: Global, row: &Row, place: u32) -> Result<Row, Memory>
+    requires { length row.now < 16 }
+    ensures { IfOk result (λ made. made ≡ numbered (row.now, place)) }
+{
+    let mut atoms = Vec::with_capacity(alloc, row.len() + 1)?;
+    for at in 0..row.len() {
+        let atom = row.atom(at).try_copy()?;
+        atoms.push(atom)?;
+    }
+    atoms.push(Atom::Int(i64::from(place)))?;
+    Ok(Row::from_atoms(atoms))
+}
+
+// Appends the row followed by a place, with the weight of a piece.
+fn push_piece(row: &Row, place: u32, weight: Frac, into: &mut Vec<Weighted>) -> Result<(), Memory>
+    requires { length row.now < 16 }
+    ensures ok { OnOk result (entries_of into.new.items ≡ entries_of into.old.items ++ (numbered (row.now, place), weight) ∷ []) }
+    ensures in_range { InRange weight }
+{
+    // Tells that the weight is in range.
+    let _numerator = weight.numer();
+    let row = numbered(*into.allocator(), row, place)?;
+    into.push(Weighted { row, weight })?;
+    Ok(())
+}
+
+// Lists the pieces of a run while something is left of the weight, and gives what is left of it then, or
+// `None` where that is out of range.
+fn push_run(
+    row: &Row,
+    run: Run,
+    place: u32,
+    weight: Frac,
+    into: &mut Vec<Weighted>,
+) -> Result<Option<Frac>, OpFault>
+    requires narrow { length row.now < 16 }
+    requires few { place + run.times ≤ 4096 }
+    ensures ok { IfOk result (λ rest. AreShaved row.now place (replicate run.times run.weight) weight (entries_of into.old.items) (entries_of into.new.items) rest) }
+    ensures range { IfErr result (λ e. e ≡ fault.Range → left_in_range (replicate run.times run.weight) weight ≡ false) }
+{
+    // Tells that the weight is in range.
+    let _numerator = weight.numer();
+    let mut rest = Some(weight);
+    for at in 0..run.times {
+        let Some(left) = rest else {
+            return Err(OpFault::Range);
+        };
+        if !is_above_zero(left) {
+            return Ok(Some(Frac::zero()));
+        }
+        push_piece(row, place + at, run.weight.min(left), into)?;
+        rest = left_of(left, run.weight);
+    }
+    Ok(rest)
+}
+
+/// Lists the pieces of a row's weight, each at the row followed by the piece's place.
+pub fn push_pieces(
+    row: &Row,
+    weight: Frac,
+    runs: &Runs,
+    into: &mut Vec<Weighted>,
+) -> Result<(), OpFault>
+    requires narrow { length row.now < 16 }
+    requires runs { IsTrue (list_all is_run runs.now) }
+    requires few { piece_count runs.now ≤ 4096 }
+    ensures ok { OnOk result (entries_of into.new.items ≡ entries_of into.old.items ++ (shaved (pieces runs.now) (one_row row.now weight)).entries) }
+    ensures fits { OnOk result (shave_fits (pieces runs.now) (one_row row.now weight) ≡ true) }
+    ensures range { IfErr result (λ e. e ≡ fault.Range → shave_fits (pieces runs.now) (one_row row.now weight) ≡ false) }
+{
+    // Tells that the weight is in range.
+    let _numerator = weight.numer();
+    let mut rest = Some(weight);
+    let mut place = 0;
+    for at in 0..runs.len() {
+        let run = runs.at(at);
+        let Some(left) = rest else {
+            return Err(OpFault::Range);
+        };
+        if !is_above_zero(left) {
+            return Ok(());
+        }
+        rest = push_run(row, *run, place, left, into)?;
+        place += run.times;
+    }
+    Ok(())
+}
