@@ -1,0 +1,2 @@
+mod OnlyWeights
+mod SetOutputs

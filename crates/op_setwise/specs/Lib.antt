@@ -1,0 +1,2 @@
+pub mod Setwise
+pub mod SetLaws
