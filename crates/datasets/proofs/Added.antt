@@ -1,13 +1,11 @@
 -- What holds of every weight once rows are added one by one.
-use Rattle.std.specs.Prelude.{◌≡◌, ℕ, ◌+◌, true, false, not, cond, ◌||◌, [], ◌∷◌, None, ℤ, ◌≤ℤ◌, ◌<ℤ◌, int_lt, refl}
+use Rattle.std.specs.Prelude.{◌≡◌, ℕ, ◌+◌, true, false, not, cond, ◌||◌, [], ◌∷◌, None, refl}
 use Rattle.std.specs.List.{position_from}
-use Rattle.std.specs.Ordering.{int_cmp, is_lt}
-use Rattle.std.specs.declared.cmp.Ordering.TheVariants.{Less, Equal, Greater}
-use Rattle.std.proofs.Common.{sym, ap, subst, ◌∙◌, true≢false, arith}
+use Rattle.std.proofs.Common.{sym, ap, subst, ◌∙◌, true≢false}
 use Rattle.std.proofs.lemmas.Bool.{not-false, or_parts}
-use Rattle.std.proofs.lemmas.Int.{ints, by_lt_z}
-use Rattle.ratios.specs.Ratio.{Ratio, RatioLe, ratio_add, zero_ratio}
+use Rattle.ratios.specs.Ratio.{Ratio, ◌≼◌, is_at_most, ratio_add, zero_ratio}
 use Rattle.ratios.specs.Range.{in_range, InRange}
+use Rattle.ratios.proofs.AtMost.{below_is_not_at_least}
 use Rattle.ratios.proofs.Sums.{first_passes}
 use Rattle.datasets.specs.Entries.{Row, same_row, has_row, Entries, rows_of}
 use Rattle.datasets.specs.Dataset.{Dataset, at, add_at, with_added, running_weights, first_weight_out_of_range, is_negative, first_negative}
@@ -69,22 +67,14 @@ none_negative B i (e ∷ es) x none there =
       | false ↦ λ other here. none_negative B (i + 1) es x p.1 here
     ] refl there
 
-lt_holds : (a b : ℤ) → a <ℤ b → is_lt (int_cmp a b) ≡ false → b ≤ℤ a
-lt_holds a b lt e =
-    let t : true ≡ int_lt a b = omega (arith, ints) in
-    absurd (true≢false (sym (ap (λ c. is_lt (cond c Less (cond (int_lt b a) Greater Equal))) (sym t)) ∙ e))
-
-not_lt : (a b : ℤ) → is_lt (int_cmp a b) ≡ false → b ≤ℤ a
-not_lt a b e = by_lt_z a b (λ lt. lt_holds a b lt e) (λ le. le)
-
 -- a weight that isn't below 0
-pub nonnegative-from_test : (q : Ratio) → is_negative q ≡ false → RatioLe zero_ratio q
-nonnegative-from_test q e = not_lt _ _ e
+pub nonnegative-from_test : (q : Ratio) → is_negative q ≡ false → zero_ratio ≼ q
+nonnegative-from_test q e = not-false (is_at_most zero_ratio q) (sym (below_is_not_at_least q zero_ratio) ∙ e)
 
 -- where no weight was below 0 and no added row ends there, none is at the end
-pub with_added-nonnegative : (A : Dataset) (es : Entries) → ((x : Row) → RatioLe zero_ratio (at A x)) → first_negative A es ≡ None → (x : Row) → RatioLe zero_ratio (at (with_added A es) x)
+pub with_added-nonnegative : (A : Dataset) (es : Entries) → ((x : Row) → zero_ratio ≼ at A x) → first_negative A es ≡ None → (x : Row) → zero_ratio ≼ at (with_added A es) x
 with_added-nonnegative A es before none x =
-    elim (has_row (rows_of es) x) as (λ b. has_row (rows_of es) x ≡ b → RatioLe zero_ratio (at (with_added A es) x)) [
+    elim (has_row (rows_of es) x) as (λ b. has_row (rows_of es) x ≡ b → zero_ratio ≼ at (with_added A es) x) [
       | true ↦ λ there. nonnegative-from_test (at (with_added A es) x) (none_negative (with_added A es) 0 es x none there)
-      | false ↦ λ other. subst (RatioLe zero_ratio) (sym (with_added-other A es x other)) (before x)
+      | false ↦ λ other. subst (λ q. zero_ratio ≼ q) (sym (with_added-other A es x other)) (before x)
     ] refl

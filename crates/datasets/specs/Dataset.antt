@@ -2,8 +2,8 @@
 use Rattle.std.specs.Prelude.{Bool, List, [], ◌∷◌, map, fold, ℕ, Option, not}
 use Rattle.std.specs.List.{position_from}
 use Rattle.std.specs.List.Sorted.{IsStrictlySortedBy}
-use Rattle.std.specs.Ordering.{is_lt, match_ordering}
-use Rattle.ratios.specs.Ratio.{Ratio, ratio_abs, ratio_add, ratio_cmp, ratio_sub, zero_ratio}
+use Rattle.std.specs.Ordering.{match_ordering}
+use Rattle.ratios.specs.Ratio.{Ratio, ratio_abs, ratio_add, is_below, ratio_sub, zero_ratio}
 use Rattle.ratios.specs.Range.{in_range}
 use Rattle.ratios.specs.Sums.{ratio_sum}
 use Rattle.record_text.specs.Order.{row_cmp}
@@ -93,7 +93,7 @@ first_weight_out_of_range A added = position_from (λ q. not (in_range q)) 0 (ru
 
 -- q is below 0
 abbrev pub is_negative : Ratio → Bool
-is_negative q = is_lt (ratio_cmp q zero_ratio)
+is_negative q = is_below q zero_ratio
 
 -- the first place whose row has a weight below 0 once all are added
 abbrev pub first_negative : Dataset → Entries → Option ℕ

@@ -1,6 +1,6 @@
 -- Laws of datasets, each the contract of a function.
 use Rattle.std.specs.Prelude.{◌+◌, ◌≡◌, All, filter, if◌then◌else◌, length, not}
-use Rattle.ratios.specs.Ratio.{Ratio, RatioLe, ratio_add, zero_ratio}
+use Rattle.ratios.specs.Ratio.{Ratio, ratio_add, zero_ratio, ◌≼◌}
 use Rattle.datasets.specs.Entries.{Row, same_row, Entries, rows_of, AreRising, is_zero, row_count, weight_in}
 use Rattle.datasets.specs.Dataset.{Dataset, rows, at, norm, norm_terms, dist, dist_terms, empty, set_at, add_at, dataset_of}
 
@@ -42,11 +42,11 @@ DatasetOfRisingEntries = (es : Entries) → AreRising (rows_of es) → (dataset_
 
 -- no term of a norm is below 0, nor is the norm
 abbrev pub NormIsNonnegative : Type 0
-NormIsNonnegative = (A : Dataset) → All (RatioLe zero_ratio) (norm_terms A) × RatioLe zero_ratio (norm A)
+NormIsNonnegative = (A : Dataset) → All (λ q. zero_ratio ≼ q) (norm_terms A) × (zero_ratio ≼ norm A)
 
 -- no term of a distance is below 0, nor is the distance
 abbrev pub DistanceIsNonnegative : Type 0
-DistanceIsNonnegative = (A B : Dataset) → All (RatioLe zero_ratio) (dist_terms A B) × RatioLe zero_ratio (dist A B)
+DistanceIsNonnegative = (A B : Dataset) → All (λ q. zero_ratio ≼ q) (dist_terms A B) × (zero_ratio ≼ dist A B)
 
 -- a dataset is at no distance to itself
 abbrev pub DistanceToItself : Type 0

@@ -4,12 +4,11 @@ use Rattle.std.proofs.Common.{sym, ap, ap₂, subst, ◌∙◌, arith, get_or}
 use Rattle.std.proofs.lemmas.List.{length-map, get_or-map}
 use Rattle.std.proofs.Math.Seq.{drop-cons}
 use Rattle.std.proofs.Math.ListN.{drop_of_length-le}
-use Rattle.ratios.specs.Range.{in_range, InRange}
+use Rattle.ratios.specs.Range.{in_range, InRange, all_in_range}
 use Rattle.ratios.specs.Ratio.{Ratio, ratio_add, zero_ratio}
-use Rattle.ratios.specs.Sums.{ratio_sum, running_sums_after}
+use Rattle.ratios.specs.Sums.{ratio_sum, running_sums_after, runs_in_range}
 use Rattle.ratios.proofs.Range.{in_range-out}
 use Rattle.datasets.specs.Entries.{Row}
-use Rattle.operators.specs.InRange.{all_in_range, runs_in_range}
 use Rattle.weighted_set.specs.declared.weighted.Weighted.{Weighted}
 use Rattle.weighted_set.specs.Changes.{entries_of}
 use Rattle.weighted_set.proofs.Running.{length-entries_of}

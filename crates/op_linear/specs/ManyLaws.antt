@@ -4,9 +4,9 @@ use Rattle.std.specs.List.{list_all}
 use Rattle.std.proofs.Common.{sym, ap, subst, ◌∙◌}
 use Rattle.std.proofs.lemmas.Bool.{and_from, and_parts, or_parts}
 use Rattle.std.proofs.lemmas.List.Folds.{list_all-map, list_any-append}
-use Rattle.ratios.specs.Range.{InRange, in_range}
+use Rattle.ratios.specs.Range.{InRange, all_in_range, in_range}
 use Rattle.ratios.specs.Ratio.{Ratio, ratio, ratio_add, ratio_mul, zero_ratio}
-use Rattle.ratios.specs.Sums.{ratio_sum}
+use Rattle.ratios.specs.Sums.{ratio_sum, runs_in_range}
 use Rattle.ratios.proofs.Additive.{ratio_zero_add}
 use Rattle.ratios.proofs.Products.{ratio_mul_zero, ratio_zero_mul}
 use Rattle.ratios.proofs.SumLaws.{ratio_sum-cons}
@@ -15,7 +15,7 @@ use Rattle.datasets.specs.Entries.{Row, has_row, is_zero, same_row}
 use Rattle.datasets.specs.Kept.{is_zero-zero_ratio}
 use Rattle.datasets.proofs.Rows.{same_row-itself, zero_if_is_zero}
 use Rattle.datasets.proofs.Weights.{at-absent, at-empty}
-use Rattle.operators.specs.InRange.{all_in_range, made_rows, many_in_range, products, runs_in_range}
+use Rattle.operators.specs.InRange.{made_rows, many_in_range, products}
 use Rattle.operators.specs.Operators.{Giving, applying, divisor, factor, spread, weight_of}
 use Rattle.operators.proofs.Products.{ratio_of_none}
 use Rattle.operators.proofs.Shares.{at-spread}

@@ -4,12 +4,12 @@ use Rattle.std.proofs.Common.{sym, ap, ap₂, subst, ◌∙◌}
 use Rattle.std.proofs.lemmas.Bool.{and_parts}
 use Rattle.ratios.specs.Range.{InRange}
 use Rattle.ratios.specs.Ratio.{one_ratio, zero_ratio}
-use Rattle.ratios.specs.Sums.{ratio_sum}
+use Rattle.ratios.specs.Sums.{ratio_sum, runs_in_range}
 use Rattle.datasets.specs.Dataset.{Dataset, at, rows}
 use Rattle.datasets.specs.Entries.{Row}
 use Rattle.datasets.proofs.Rows.{same_row-itself}
 use Rattle.datasets.proofs.Weights.{at-empty}
-use Rattle.operators.specs.InRange.{runs_in_range, select_in_range}
+use Rattle.operators.specs.InRange.{select_in_range}
 use Rattle.operators.specs.Operators.{select_terms, selected}
 use Rattle.operators.proofs.Gathered.{at-gathered}
 use Rattle.plan_model.specs.Evaluation.{row_of}

@@ -1,10 +1,9 @@
 -- The sum of the weights of a key's part.
 use Rattle.std.specs.Prelude.{Bool, if◌then◌else◌, List, map, Option, Some, None}
 use Rattle.ratios.specs.Ratio.{Ratio}
-use Rattle.ratios.specs.Sums.{ratio_sum}
+use Rattle.ratios.specs.Sums.{ratio_sum, runs_in_range}
 use Rattle.datasets.specs.Dataset.{Dataset}
 use Rattle.datasets.specs.Entries.{Row}
-use Rattle.operators.specs.InRange.{runs_in_range}
 use Rattle.op_parts.specs.OneRow.{one_row}
 use Rattle.weighted_set.specs.Changes.{entries_of}
 use Rattle.weighted_set.specs.declared.weighted.Weighted.{Weighted}

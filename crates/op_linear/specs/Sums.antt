@@ -2,14 +2,14 @@
 use Rattle.std.specs.Prelude.{◌≡◌, Bool, true, false, not, cond, filter, fold, List, [], ◌∷◌, map, refl}
 use Rattle.std.proofs.Common.{ap, ap₂, ◌∙◌}
 use Rattle.std.proofs.lemmas.Bool.{and_parts, or_parts}
-use Rattle.ratios.specs.Range.{InRange}
+use Rattle.ratios.specs.Range.{InRange, all_in_range}
 use Rattle.ratios.specs.Ratio.{Ratio, one_ratio, ratio_add, ratio_mul, zero_ratio}
-use Rattle.ratios.specs.Sums.{ratio_sum, running_sums_after}
+use Rattle.ratios.specs.Sums.{ratio_sum, running_sums_after, runs_in_range}
 use Rattle.ratios.proofs.Products.{ratio_mul_one}
 use Rattle.datasets.specs.Dataset.{Dataset, at, rows}
 use Rattle.datasets.specs.Entries.{Row, has_row, is_zero, same_row}
 use Rattle.datasets.specs.Kept.{is_zero-zero_ratio}
-use Rattle.operators.specs.InRange.{all_in_range, runs_in_range, select_in_range}
+use Rattle.operators.specs.InRange.{select_in_range}
 use Rattle.operators.specs.Operators.{select_terms}
 use Rattle.operators.specs.Weights.{weights_for}
 use Rattle.weighted_set.specs.Parts.{part_of}

@@ -5,14 +5,13 @@ use Rattle.std.specs.declared.cmp.Ordering.TheVariants.{Less, Equal, Greater}
 use Rattle.std.proofs.Common.{sym, ap, ap₂, subst, ◌∙◌}
 use Rattle.std.proofs.lemmas.Bool.{false_from_ne_true}
 use Rattle.ratios.specs.Range.{InRange}
-use Rattle.ratios.specs.Ratio.{Ratio, ratio_add, ratio_cmp, ratio_sub, zero_ratio}
+use Rattle.ratios.specs.Ratio.{Ratio, ratio_add, ratio_cmp, ratio_max, ratio_min, ratio_sub, zero_ratio}
 use Rattle.ratios.proofs.Order.{ratio_cmp_total}
 use Rattle.ratios.proofs.Range.{checked_none, checked_some}
 use Rattle.datasets.specs.Dataset.{Dataset, at, dataset_of, empty}
 use Rattle.datasets.specs.Entries.{Row, is_zero}
 use Rattle.datasets.proofs.Rows.{same_row-itself}
 use Rattle.operators.specs.InRange.{weights_in_range}
-use Rattle.operators.specs.Weights.{ratio_max, ratio_min}
 use Rattle.plan_model.specs.Evaluation.{set_weight}
 use Rattle.plan_model.specs.declared.step.SetKind.{SetKind}
 use Rattle.weighted_set.specs.Held.{AllInRange}

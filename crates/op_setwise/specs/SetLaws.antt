@@ -5,13 +5,13 @@ use Rattle.ratios.specs.Range.{InRange}
 use Rattle.ratios.specs.Ratio.{one_ratio, ratio_mul, zero_ratio}
 use Rattle.ratios.proofs.Additive.{ratio_add_zero, ratio_sub_itself}
 use Rattle.ratios.proofs.Products.{ratio_mul_one, ratio_mul_zero}
+use Rattle.ratios.proofs.AtMost.{ratio_max_itself, ratio_min_itself}
 use Rattle.record_text.specs.KindLists.{kinds_of}
 use Rattle.record_text.specs.declared.kinds.Kind.{Kind}
 use Rattle.datasets.specs.Dataset.{Dataset, at}
 use Rattle.datasets.specs.Entries.{Row, is_zero, same_row}
 use Rattle.datasets.proofs.Equality.{same_weights}
 use Rattle.datasets.proofs.Rows.{other_if_not_is_zero, same_row-equal, same_row-itself, zero_if_is_zero}
-use Rattle.operators.proofs.Order.{ratio_max_itself, ratio_min_itself}
 use Rattle.operators.proofs.Tabulated.{at-pointwise}
 use Rattle.plan_model.specs.Evaluation.{set_weight}
 use Rattle.plan_model.specs.declared.step.SetKind.{SetKind}

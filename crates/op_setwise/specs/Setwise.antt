@@ -1,13 +1,12 @@
 -- Set operators: at each row, the greater, the less, the sum or the difference of its two weights.
 use Rattle.std.specs.Prelude.{Bool, List, Option, Some}
 use Rattle.ratios.specs.Range.{checked}
-use Rattle.ratios.specs.Ratio.{Ratio, one_ratio, ratio_add, ratio_sub}
+use Rattle.ratios.specs.Ratio.{Ratio, one_ratio, ratio_add, ratio_max, ratio_min, ratio_sub}
 use Rattle.record_text.specs.declared.kinds.Kind.{Kind}
 use Rattle.datasets.specs.Dataset.{Dataset}
 use Rattle.datasets.specs.Entries.{Row}
 use Rattle.operators.specs.InRange.{weights_in_range}
 use Rattle.operators.specs.Operators.{pointwise}
-use Rattle.operators.specs.Weights.{ratio_max, ratio_min}
 use Rattle.plan_model.specs.Evaluation.{set_weight}
 use Rattle.plan_model.specs.Types.{HasColumns}
 use Rattle.plan_model.specs.declared.step.SetKind.{SetKind}

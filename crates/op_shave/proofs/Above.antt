@@ -7,11 +7,10 @@ use Rattle.std.specs.declared.cmp.Ordering.TheVariants.{Less, Equal, Greater}
 use Rattle.std.proofs.Common.{sym, ap, ap₂, subst, ◌∙◌, true≢false}
 use Rattle.std.proofs.lemmas.Bool.{and_right, false_from_ne_true}
 use Rattle.std.proofs.lemmas.Cmp.{tied_itself}
-use Rattle.ratios.specs.Ratio.{Ratio, ratio_cmp, ratio_sub, zero_ratio}
+use Rattle.ratios.specs.Ratio.{Ratio, is_at_most, is_below, ratio_cmp, ratio_max, ratio_min, ratio_sub, zero_ratio}
 use Rattle.ratios.proofs.Order.{ratio_cmp_total, same_from_tie}
 use Rattle.datasets.specs.Entries.{is_zero}
 use Rattle.datasets.proofs.Rows.{is_zero-other}
-use Rattle.operators.specs.Weights.{is_at_most, is_below, ratio_max, ratio_min}
 use Rattle.op_shave.specs.Shavings.{left_of}
 
 -- each of some ratios is above 0

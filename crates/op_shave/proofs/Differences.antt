@@ -4,11 +4,10 @@ use Rattle.std.specs.Ordering.{is_lt}
 use Rattle.std.specs.declared.cmp.Ordering.TheVariants.{Less, Equal, Greater}
 use Rattle.std.proofs.Common.{arith, sym, ap, ◌∙◌}
 use Rattle.std.proofs.lemmas.Int.{by_lt_z, ints}
-use Rattle.ratios.specs.Ratio.{Ratio, ratio_add, ratio_sub, zero_ratio}
+use Rattle.ratios.specs.Ratio.{Ratio, is_below, ratio_add, ratio_sub, zero_ratio}
 use Rattle.ratios.proofs.Additive.{over_zero}
 use Rattle.ratios.proofs.Order.{cmp_over, three}
 use Rattle.ratios.proofs.Over.{over_add, over_as, over_itself, over_sub, same_over}
-use Rattle.operators.specs.Weights.{is_below}
 
 pub ratio_sub_zero : (q : Ratio) → ratio_sub q zero_ratio ≡ q
 ratio_sub_zero q =

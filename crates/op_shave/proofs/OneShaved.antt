@@ -10,7 +10,7 @@ use Rattle.std.proofs.lemmas.Cmp.{tied_itself}
 use Rattle.std.proofs.lemmas.List.{append-nil}
 use Rattle.std.proofs.lemmas.List.Folds.{list_all-map}
 use Rattle.ratios.specs.Range.{InRange, in_range}
-use Rattle.ratios.specs.Ratio.{Ratio, ratio_sub, zero_ratio}
+use Rattle.ratios.specs.Ratio.{Ratio, is_below, ratio_max, ratio_min, ratio_sub, zero_ratio}
 use Rattle.ratios.specs.Sums.{ratio_sum}
 use Rattle.ratios.proofs.SumLaws.{ratio_sum-cons}
 use Rattle.record_text.specs.Order.{row_cmp}
@@ -22,7 +22,7 @@ use Rattle.datasets.specs.Kept.{is_zero-zero_ratio}
 use Rattle.datasets.proofs.Weights.{weight_in-cons}
 use Rattle.operators.specs.InRange.{left_before, shave_in_range, weights_in_range}
 use Rattle.operators.specs.Operators.{numbered, piece, shaved}
-use Rattle.operators.specs.Weights.{collected, gathered, is_below, pairs, ratio_max, ratio_min}
+use Rattle.operators.specs.Weights.{collected, gathered, pairs}
 use Rattle.weighted_set.proofs.Sets.{InRange-zero}
 use Rattle.op_parts.specs.OneRow.{one_row}
 use Rattle.op_parts.proofs.OneRows.{entries-empty, entries-one_row}

@@ -7,11 +7,10 @@ use Rattle.std.proofs.lemmas.List.{append-nil, append_assoc}
 use Rattle.std.proofs.lemmas.List.Folds.{fold_stays}
 use Rattle.std.proofs.lemmas.List.Sums.{fold-append}
 use Rattle.ratios.specs.Range.{InRange, checked, in_range}
-use Rattle.ratios.specs.Ratio.{Ratio, zero_ratio}
+use Rattle.ratios.specs.Ratio.{Ratio, is_below, ratio_min, zero_ratio}
 use Rattle.ratios.proofs.Range.{checked-in, checked_none, checked_some, in_range-out}
 use Rattle.datasets.specs.Entries.{Entries, Row}
 use Rattle.operators.specs.Operators.{numbered}
-use Rattle.operators.specs.Weights.{is_below, ratio_min}
 use Rattle.operators.proofs.Members.{AllByRecursion-append}
 use Rattle.weighted_set.proofs.Sets.{InRange-zero}
 use Rattle.op_shave.specs.Shavings.{AreShaved, left_after, left_in_range, left_of, shavings}

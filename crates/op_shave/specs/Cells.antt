@@ -8,7 +8,7 @@ use Rattle.std.proofs.lemmas.Bool.{false_from_ne_true}
 use Rattle.std.proofs.lemmas.List.{length-append}
 use Rattle.std.proofs.lemmas.List.Folds.{list_all-append, list_all-map}
 use Rattle.ratios.specs.Range.{in_range}
-use Rattle.ratios.specs.Ratio.{Ratio, ratio_add, zero_ratio}
+use Rattle.ratios.specs.Ratio.{Ratio, is_below, ratio_add, zero_ratio}
 use Rattle.ratios.specs.Sums.{ratio_sum}
 use Rattle.ratios.proofs.Additive.{ratio_add_zero, ratio_zero_add}
 use Rattle.ratios.proofs.SumLaws.{ratio_sum-cons}
@@ -20,7 +20,7 @@ use Rattle.datasets.proofs.Rows.{is_zero-other, same_row-equal, same_row-itself}
 use Rattle.datasets.proofs.Weights.{at-absent}
 use Rattle.operators.specs.InRange.{left_before, shave_in_range}
 use Rattle.operators.specs.Operators.{cells, numbered, piece, shaved}
-use Rattle.operators.specs.Weights.{is_below, pairs, weights_for}
+use Rattle.operators.specs.Weights.{pairs, weights_for}
 use Rattle.operators.proofs.Gathered.{at-gathered, ratio_sum-pairs}
 use Rattle.operators.proofs.SingleWeights.{AllByRecursion-has_row}
 use Rattle.weighted_set.proofs.Parts.{absent_below, at-present}

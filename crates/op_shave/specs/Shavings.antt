@@ -2,10 +2,9 @@
 use Rattle.std.specs.Prelude.{ℕ, ◌+◌, ◌≡◌, Bool, true, ◌&&◌, if◌then◌else◌, fold, List, [], ◌∷◌, ◌++◌, Option}
 use Rattle.std.specs.List.{AllByRecursion}
 use Rattle.ratios.specs.Range.{InRange, checked, in_range}
-use Rattle.ratios.specs.Ratio.{Ratio, ratio_sub, zero_ratio}
+use Rattle.ratios.specs.Ratio.{Ratio, is_below, ratio_min, ratio_sub, zero_ratio}
 use Rattle.datasets.specs.Entries.{Entries, Row}
 use Rattle.operators.specs.Operators.{numbered}
-use Rattle.operators.specs.Weights.{is_below, ratio_min}
 
 -- what is left of w once f is taken off it, 0 where nothing is
 abbrev pub left_of : Ratio → Ratio → Ratio

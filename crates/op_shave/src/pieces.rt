@@ -2,12 +2,11 @@
 ghost use Rattle.std.specs.Prelude.{◌≡◌, ◌+◌, ◌≤◌, ◌<◌, ◌++◌, [], ◌∷◌, IfErr, IfOk, IsTrue, OnOk, false, length, replicate, true};
 ghost use Rattle.std.specs.List.{list_all};
 ghost use Rattle.operators.specs.Operators.{numbered, shaved};
-ghost use Rattle.operators.specs.Weights.{is_below};
 ghost use Rattle.plan_model.specs.Evaluation.{pieces};
 ghost use Rattle.plan_model.specs.Limits.{is_run};
 ghost use Rattle.plan_model.specs.Pieces.{piece_count};
 ghost use Rattle.ratios.specs.Range.{InRange, checked};
-ghost use Rattle.ratios.specs.Ratio.{zero_ratio};
+ghost use Rattle.ratios.specs.Ratio.{is_below, zero_ratio};
 ghost use Rattle.weighted_set.specs.Changes.{entries_of};
 ghost use Rattle.weighted_set.specs.declared.part_op.OpFault.TheVariants as fault;
 ghost use Rattle.op_parts.specs.OneRow.{one_row};

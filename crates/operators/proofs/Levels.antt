@@ -4,13 +4,12 @@ use Rattle.std.specs.List.{AllByRecursion}
 use Rattle.std.specs.Ordering.{match_ordering}
 use Rattle.std.specs.declared.cmp.Ordering.TheVariants.{Less, Equal, Greater}
 use Rattle.std.proofs.Common.{subst, sym}
-use Rattle.ratios.specs.Ratio.{Ratio, ratio_cmp}
+use Rattle.ratios.specs.Ratio.{Ratio, is_at_most, ratio_cmp}
+use Rattle.ratios.proofs.AtMost.{at_most_itself}
 use Rattle.datasets.specs.Dataset.{Dataset, at, rows}
 use Rattle.datasets.specs.Entries.{Row}
-use Rattle.operators.specs.Weights.{is_at_most}
 use Rattle.operators.specs.Operators.{levels, top, with_level, with_levels}
 use Rattle.operators.proofs.Members.{AllByRecursion-everywhere, AllByRecursion-map, AllByRecursion-weaker}
-use Rattle.operators.proofs.Order.{is_at_most-itself}
 
 pub AllByRecursion-with_level : (P : Ratio → Type 0) (t : Ratio) (us : List Ratio) → P t → AllByRecursion P us → AllByRecursion P (with_level t us)
 AllByRecursion-with_level P t [] p h = (p, tt)
@@ -32,7 +31,7 @@ module _ (weight : Row → Ratio) where
   above t xs = filter (λ x. is_at_most t (weight x)) xs
 
   not_empty_first : (x : Row) (xs : List Row) → above (weight x) (x ∷ xs) ≢ []
-  not_empty_first x xs = subst (λ b. cond b (x ∷ above (weight x) xs) (above (weight x) xs) ≢ []) (sym (is_at_most-itself (weight x))) (λ e. cc)
+  not_empty_first x xs = subst (λ b. cond b (x ∷ above (weight x) xs) (above (weight x) xs) ≢ []) (sym (at_most_itself (weight x))) (λ e. cc)
 
   not_empty_more : (t : Ratio) (x : Row) (xs : List Row) → above t xs ≢ [] → above t (x ∷ xs) ≢ []
   not_empty_more t x xs h = elim (is_at_most t (weight x)) as (λ b. cond b (x ∷ above t xs) (above t xs) ≢ []) [ true ↦ λ e. cc | false ↦ h ]

@@ -2,7 +2,6 @@ pub mod Gathered
 pub mod Tabulated
 pub mod Products
 pub mod Shares
-pub mod Order
 pub mod Signs
 pub mod Members
 pub mod Levels

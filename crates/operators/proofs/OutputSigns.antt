@@ -3,19 +3,19 @@ use Rattle.std.specs.Prelude.{◌≡◌, ℕ, pos, Bool, true, false, cond, ◌�
 use Rattle.std.specs.List.{AllByRecursion}
 use Rattle.std.proofs.Common.{arith, inl, inr, subst, sym}
 use Rattle.std.proofs.lemmas.Int.{ints}
-use Rattle.ratios.specs.Ratio.{Ratio, RatioLe, ratio, ratio_add, ratio_mul, zero_ratio}
-use Rattle.ratios.proofs.Additive.{ratio_add_zero, ratio_le_refl}
+use Rattle.ratios.specs.Ratio.{Ratio, is_below, ratio, ratio_add, ratio_max, ratio_min, ratio_mul, zero_ratio, ◌≼◌}
+use Rattle.ratios.proofs.Additive.{ratio_add_zero}
+use Rattle.ratios.proofs.AtMost.{at_most_if_below, at_most_itself, ratio_max_itself, ratio_min_itself}
 use Rattle.record_text.specs.declared.atom.Atom.{Atom}
 use Rattle.datasets.specs.Dataset.{Dataset, at, norm, rows}
 use Rattle.datasets.specs.Entries.{Row, same_row}
 use Rattle.datasets.proofs.Sizes.{sum_nonnegative}
-use Rattle.operators.specs.Weights.{gathered, is_below, pairs, ratio_max, ratio_min}
+use Rattle.operators.specs.Weights.{gathered, pairs}
 use Rattle.operators.specs.Operators.{Giving, applying, both_norms, both_rows, cells, divisor, down_to, filtered, gap, group_row, grouped, half_gap, joined, joint_weight, key_levels, keys, levels, matches, numbered, part, piece, pointwise, selected, shaved, spread}
 use Rattle.operators.specs.Laws.{NoneNegative}
 use Rattle.operators.proofs.Gathered.{at-gathered}
 use Rattle.operators.proofs.Levels.{AllByRecursion-levels}
 use Rattle.operators.proofs.Members.{AllByRecursion-everywhere, AllByRecursion-filter, AllByRecursion-map, AllByRecursion-pairs, AllByRecursion-passing, AllByRecursion-weaker}
-use Rattle.operators.proofs.Order.{RatioLe-is_below, ratio_max_itself, ratio_min_itself}
 use Rattle.datasets.proofs.Sizes.{IsNonnegative}
 use Rattle.operators.proofs.Signs.{IsNonnegative-ratio, IsNonnegative-ratio_add, IsNonnegative-ratio_div, IsNonnegative-ratio_half, IsNonnegative-ratio_max, IsNonnegative-ratio_min, IsNonnegative-ratio_mul, IsNonnegative-ratio_sub, IsNonnegative-ratio_sum}
 use Rattle.operators.proofs.Tabulated.{at-filtered, at-pointwise}
@@ -42,7 +42,7 @@ NoneNegative-spread over items A h =
     (λ p. IsNonnegative-ratio_mul (at A p.0) (share p) (h p.0) (IsNonnegative-ratio (pos p.1.weight) (divisor over items p.0) (omega (arith, ints))))
 
 pub NoneNegative-shaved : (fs : List Ratio) (A : Dataset) → NoneNegative (shaved fs A)
-NoneNegative-shaved fs A = gathered_everywhere numbered (λ p. piece fs (at A p.0) p.1) (cells fs A) (λ p. IsNonnegative-ratio_max zero_ratio _ (inl (ratio_le_refl zero_ratio)))
+NoneNegative-shaved fs A = gathered_everywhere numbered (λ p. piece fs (at A p.0) p.1) (cells fs A) (λ p. IsNonnegative-ratio_max zero_ratio _ (inl (at_most_itself zero_ratio)))
 
 norm_nonnegative : (A : Dataset) → IsNonnegative (norm A)
 norm_nonnegative A = sum_nonnegative (λ e. e.1) A.entries
@@ -57,7 +57,7 @@ NoneNegative-joined f g A B h k =
 
 pub NoneNegative-filtered : (test : Row → Bool) (A : Dataset) → NoneNegative A → NoneNegative (filtered test A)
 NoneNegative-filtered test A h z =
-    subst IsNonnegative (sym (at-filtered test A z)) (elim (test z) as (λ b. IsNonnegative (cond b (at A z) zero_ratio)) [ true ↦ h z | false ↦ ratio_le_refl zero_ratio ])
+    subst IsNonnegative (sym (at-filtered test A z)) (elim (test z) as (λ b. IsNonnegative (cond b (at A z) zero_ratio)) [ true ↦ h z | false ↦ at_most_itself zero_ratio ])
 
 pub NoneNegative-union : (A B : Dataset) → NoneNegative A ⊎ NoneNegative B → NoneNegative (pointwise ratio_max A B)
 NoneNegative-union A B h z = subst IsNonnegative (sym (at-pointwise ratio_max (ratio_max_itself zero_ratio) A B z)) (IsNonnegative-ratio_max (at A z) (at B z) (at_row h))
@@ -74,14 +74,14 @@ NoneNegative-concat A B h k z = subst IsNonnegative (sym (at-pointwise ratio_add
 
 -- ---- Group
 
-IsNonnegative-down_to : (t : Ratio) (us : List Ratio) → IsNonnegative t → AllByRecursion (λ u. RatioLe u t) us → IsNonnegative (down_to t us)
+IsNonnegative-down_to : (t : Ratio) (us : List Ratio) → IsNonnegative t → AllByRecursion (λ u. u ≼ t) us → IsNonnegative (down_to t us)
 IsNonnegative-down_to t [] h k = h
 IsNonnegative-down_to t (u ∷ us) h k = IsNonnegative-ratio_sub t u k.0
 
 pub IsNonnegative-gap : (P : Dataset) (t : Ratio) → IsNonnegative t → IsNonnegative (gap P t)
 IsNonnegative-gap P t h =
     let lower = filter (λ u. is_below u t) (levels P) in
-    IsNonnegative-down_to t lower h (AllByRecursion-weaker (λ u. is_below u t ≡ true) (λ u. RatioLe u t) lower (λ u. RatioLe-is_below u t) (AllByRecursion-passing (λ u. is_below u t) (levels P)))
+    IsNonnegative-down_to t lower h (AllByRecursion-weaker (λ u. is_below u t ≡ true) (λ u. u ≼ t) lower (λ u. at_most_if_below u t) (AllByRecursion-passing (λ u. is_below u t) (levels P)))
 
 pub NoneNegative-grouped : (key : Row → Row) (reduce : List Row → Atom) (A : Dataset) → NoneNegative A → NoneNegative (grouped key reduce A)
 NoneNegative-grouped key reduce A h =

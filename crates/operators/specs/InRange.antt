@@ -1,22 +1,13 @@
 -- The values that an operator passes through, and whether all of them are in range.
 use Rattle.std.specs.Prelude.{ℕ, Bool, ◌&&◌, ◌||◌, not, List, filter, flat_map, map, take}
 use Rattle.std.specs.List.{list_all}
-use Rattle.ratios.specs.Ratio.{Ratio, ratio_add, ratio_div, ratio_mul, ratio_sub, zero_ratio}
-use Rattle.ratios.specs.Range.{in_range}
-use Rattle.ratios.specs.Sums.{ratio_sum, running_sums}
+use Rattle.ratios.specs.Ratio.{Ratio, is_below, ratio_add, ratio_div, ratio_mul, ratio_sub, zero_ratio}
+use Rattle.ratios.specs.Range.{all_in_range, in_range}
+use Rattle.ratios.specs.Sums.{ratio_sum, runs_in_range}
 use Rattle.record_text.specs.declared.atom.Atom.{Atom}
 use Rattle.datasets.specs.Dataset.{Dataset, at, norm, norm_terms, rows}
 use Rattle.datasets.specs.Entries.{Row, has_row, is_zero}
-use Rattle.operators.specs.Weights.{is_below}
 use Rattle.operators.specs.Operators.{Giving, applying, cells, factor, gap, group_row, group_terms, half_gap, key_levels, keys, part, select_terms}
-
--- each ratio of a list is in range
-abbrev pub all_in_range : List Ratio → Bool
-all_in_range ws = list_all in_range ws
-
--- each partial sum from the front is in range
-abbrev pub runs_in_range : List Ratio → Bool
-runs_in_range ws = all_in_range (running_sums ws)
 
 -- each weight of a dataset is in range
 abbrev pub weights_in_range : Dataset → Bool

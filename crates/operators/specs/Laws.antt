@@ -1,12 +1,11 @@
 -- Laws of the operators, each the contract of a function.
 use Rattle.std.specs.Prelude.{◌≡◌, ◌⊎◌, ◌↔◌, ◌<◌, ℕ, pos, Bool, true, List, [], ◌∷◌, ◌++◌, Contains, length, map}
 use Rattle.std.specs.List.Sorted.{IsStrictlySortedBy}
-use Rattle.ratios.specs.Ratio.{Ratio, RatioLe, ratio_add, ratio_cmp, ratio_div, ratio_mul, ratio_sub, zero_ratio}
+use Rattle.ratios.specs.Ratio.{Ratio, ratio_add, ratio_cmp, ratio_div, ratio_max, ratio_min, ratio_mul, ratio_sub, zero_ratio, ◌≼◌}
 use Rattle.record_text.specs.declared.atom.Atom.{Atom}
 use Rattle.record_text.specs.declared.atom.Atom.TheVariants.{Int}
 use Rattle.datasets.specs.Dataset.{Dataset, at, norm, rows}
 use Rattle.datasets.specs.Entries.{Row, has_row}
-use Rattle.operators.specs.Weights.{ratio_max, ratio_min}
 use Rattle.operators.specs.Operators.{Giving, filter_weight, filtered, group_weight, grouped, join_weight, joined, levels, many_weight, part, piece, pointwise, pointwise_weight, select_weight, selected, shave_weight, shaved, spread}
 
 -- ---- weights
@@ -73,7 +72,7 @@ LevelsAreWeights = (P : Dataset) (t : Ratio) → Contains (levels P) t ↔ Conta
 
 -- no weight is negative
 abbrev pub NoneNegative : Dataset → Type 0
-NoneNegative A = (x : Row) → RatioLe zero_ratio (at A x)
+NoneNegative A = (x : Row) → zero_ratio ≼ at A x
 
 abbrev pub FilterKeepsSigns : Type 0
 FilterKeepsSigns = (test : Row → Bool) (A : Dataset) → NoneNegative A → NoneNegative (filtered test A)

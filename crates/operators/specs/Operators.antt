@@ -3,13 +3,13 @@
 use Rattle.std.specs.Prelude.{ℕ, pos, Bool, List, [], ◌∷◌, ◌++◌, filter, if◌then◌else◌, length, map, max, slice_index_or, sum_by, take}
 use Rattle.std.specs.List.{range_with_len}
 use Rattle.std.specs.Ordering.{match_ordering}
-use Rattle.ratios.specs.Ratio.{Ratio, ratio, ratio_add, ratio_cmp, ratio_div, ratio_half, ratio_mul, ratio_sub, zero_ratio}
+use Rattle.ratios.specs.Ratio.{Ratio, is_at_most, is_below, ratio, ratio_add, ratio_cmp, ratio_div, ratio_half, ratio_max, ratio_min, ratio_mul, ratio_sub, zero_ratio}
 use Rattle.ratios.specs.Sums.{ratio_sum}
 use Rattle.record_text.specs.declared.atom.Atom.{Atom}
 use Rattle.record_text.specs.declared.atom.Atom.TheVariants.{Int}
 use Rattle.datasets.specs.Dataset.{Dataset, at, norm, rows, rows_of_either, with_rows}
 use Rattle.datasets.specs.Entries.{Row, same_row}
-use Rattle.operators.specs.Weights.{gathered, is_at_most, is_below, pairs, ratio_max, ratio_min, tabulated, weights_for}
+use Rattle.operators.specs.Weights.{gathered, pairs, tabulated, weights_for}
 
 -- ---- Filter by a test
 

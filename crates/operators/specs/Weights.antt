@@ -1,29 +1,8 @@
 -- Datasets by the weights of their rows.
-use Rattle.std.specs.Prelude.{Bool, List, filter, flat_map, if◌then◌else◌, map}
-use Rattle.std.specs.Ordering.{is_le, is_lt}
-use Rattle.ratios.specs.Ratio.{Ratio, ratio_cmp}
+use Rattle.std.specs.Prelude.{List, filter, flat_map, map}
+use Rattle.ratios.specs.Ratio.{Ratio}
 use Rattle.datasets.specs.Dataset.{Dataset, dataset_of, empty, with_added}
 use Rattle.datasets.specs.Entries.{Entries, Row, same_row}
-
--- ---- ratios
-
--- q is at most r
-abbrev pub is_at_most : Ratio → Ratio → Bool
-is_at_most q r = is_le (ratio_cmp q r)
-
--- q is below r
-abbrev pub is_below : Ratio → Ratio → Bool
-is_below q r = is_lt (ratio_cmp q r)
-
--- the greater of two
-abbrev pub ratio_max : Ratio → Ratio → Ratio
-ratio_max q r = if is_at_most q r then r else q
-
--- the less of two
-abbrev pub ratio_min : Ratio → Ratio → Ratio
-ratio_min q r = if is_at_most q r then q else r
-
--- ---- datasets
 
 -- the dataset with the weight f x at each row x of a list, and with no other row
 abbrev pub tabulated : (Row → Ratio) → List Row → Dataset

@@ -6,7 +6,7 @@ use Rattle.std.proofs.Common.{sym, ap, ap₂, subst, ◌∙◌, inl, inr, true�
 use Rattle.std.proofs.lemmas.Bool.{and_cases, and_parts, not-true, or_parts}
 use Rattle.std.proofs.lemmas.List.{map-append}
 use Rattle.ratios.specs.Ratio.{Ratio, zero_ratio}
-use Rattle.ratios.proofs.Additive.{ratio_le_refl}
+use Rattle.ratios.proofs.AtMost.{at_most_itself}
 use Rattle.record_text.specs.declared.atom.Atom.TheVariants as atom
 use Rattle.record_text.specs.declared.kinds.Kind.{Kind}
 use Rattle.record_text.specs.declared.kinds.Kind.TheVariants.{Int}
@@ -39,7 +39,7 @@ pub record IsTyped (cols : List Kind) (flag : Bool) (A : Dataset) : Type 0 where
 
 pub IsTyped-empty : (cols : List Kind) (flag : Bool) → IsTyped cols flag empty
 unfolding empty
-IsTyped-empty cols flag = record { rows = tt; sign = λ e x. ratio_le_refl zero_ratio }
+IsTyped-empty cols flag = record { rows = tt; sign = λ e x. at_most_itself zero_ratio }
 
 -- ---- sources
 

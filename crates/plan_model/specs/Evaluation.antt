@@ -2,7 +2,7 @@
 use Rattle.std.specs.Prelude.{ℕ, pos, ℤ, ◌+ℤ◌, Bool, true, not, if◌then◌else◌, List, [], ◌∷◌, ◌++◌, flat_map, fold, length, map, replicate, slice_index_or, Option, Some, None, option_map}
 use Rattle.std.specs.Option.{unwrap_or}
 use Rattle.std.specs.Ordering.{int_eq, is_lt}
-use Rattle.ratios.specs.Ratio.{Ratio, ratio_add, ratio_sub}
+use Rattle.ratios.specs.Ratio.{Ratio, ratio_add, ratio_max, ratio_min, ratio_sub}
 use Rattle.record_text.specs.declared.atom.Atom.{Atom}
 use Rattle.record_text.specs.declared.atom.Atom.TheVariants.{Int, Text}
 use Rattle.record_text.specs.Order.{atom_cmp}
@@ -10,7 +10,6 @@ use Rattle.datasets.specs.Dataset.{Dataset, empty}
 use Rattle.datasets.specs.Entries.{Row}
 pub use Rattle.datasets.specs.Families.{Family, dataset_at}
 use Rattle.prim_table.specs.Primitives.{clamped}
-use Rattle.operators.specs.Weights.{ratio_max, ratio_min}
 use Rattle.operators.specs.Operators.{Giving, filtered, grouped, joined, pointwise, selected, shaved, spread}
 use Rattle.plan_model.specs.declared.expr.Expr.{Expr}
 use Rattle.plan_model.specs.declared.step.Item.{Item}

@@ -1,8 +1,7 @@
 -- The limits of plans, and what a plan refers to.
 use Rattle.std.specs.Prelude.{ℕ, suc, ◌+◌, Bool, ◌&&◌, true, max, nat_le, nat_lt, List, [], ◌∷◌, length, Option, Some, None}
 use Rattle.std.specs.List.{list_all}
-use Rattle.ratios.specs.Ratio.{zero_ratio}
-use Rattle.operators.specs.Weights.{is_below}
+use Rattle.ratios.specs.Ratio.{is_below, zero_ratio}
 use Rattle.plan_model.specs.declared.expr.Expr.{Expr}
 use Rattle.plan_model.specs.declared.step.Item.{Item}
 use Rattle.plan_model.specs.declared.step.Run.{Run}

@@ -1,10 +1,11 @@
 -- Laws of sums, differences and absolute values: each holds of whole numbers over one denominator.
 use Rattle.std.proofs.Common.{ℕ, ◌<◌, ◌≡◌, ℤ, pos, ◌+ℤ◌, ◌-ℤ◌, sym, ap, ◌∙◌, subst, arith, lit<}
 use Rattle.std.proofs.lemmas.Int.{ints}
-use Rattle.ratios.specs.Ratio.{Ratio, ratio, ratio_add, ratio_sub, ratio_neg, ratio_abs, RatioLe, zero_ratio}
-use Rattle.ratios.proofs.Over.{IsOver, over_itself, same_over, same_numerator, le_over, over_le, over_add, over_sub, over_neg, over_abs, over_as, over_ratio, over_moved}
+use Rattle.ratios.specs.Ratio.{Ratio, ratio, ratio_add, ratio_sub, ratio_neg, ratio_abs, ◌≼◌, zero_ratio}
+use Rattle.ratios.proofs.Over.{IsOver, over_itself, same_over, same_numerator, over_add, over_sub, over_neg, over_abs, over_as, over_ratio, over_moved}
 use Rattle.ratios.proofs.Parts.{ratio-zero}
 use Rattle.ratios.proofs.Order.{three}
+use Rattle.ratios.proofs.AtMost.{le_over, over_le}
 
 pub ratio_add_comm : (q r : Ratio) → ratio_add q r ≡ ratio_add r q
 ratio_add_comm q r =
@@ -76,15 +77,15 @@ ratio_abs_neg q =
 pub ratio_abs_sub_comm : (q r : Ratio) → ratio_abs (ratio_sub q r) ≡ ratio_abs (ratio_sub r q)
 ratio_abs_sub_comm q r = sym (ratio_abs_neg (ratio_sub q r)) ∙ ap ratio_abs (ratio_neg_sub q r)
 
-pub ratio_abs_nonnegative : (q : Ratio) → RatioLe zero_ratio (ratio_abs q)
+pub ratio_abs_nonnegative : (q : Ratio) → zero_ratio ≼ ratio_abs q
 ratio_abs_nonnegative q = over_le _ _ q.den _ _ (over_zero q.den q.positive) (over_abs _ _ _ (over_itself q)) (omega (arith, ints))
 
-pub ratio_abs_add : (q r : Ratio) → RatioLe (ratio_abs (ratio_add q r)) (ratio_add (ratio_abs q) (ratio_abs r))
+pub ratio_abs_add : (q r : Ratio) → ratio_abs (ratio_add q r) ≼ ratio_add (ratio_abs q) (ratio_abs r)
 ratio_abs_add q r =
     let t = three q r r in
     over_le _ _ t.d _ _ (over_abs _ _ _ (over_add _ _ _ _ _ t.first t.second)) (over_add _ _ _ _ _ (over_abs _ _ _ t.first) (over_abs _ _ _ t.second)) (omega (arith, ints))
 
-pub ratio_triangle : (q r s : Ratio) → RatioLe (ratio_abs (ratio_sub q s)) (ratio_add (ratio_abs (ratio_sub q r)) (ratio_abs (ratio_sub r s)))
+pub ratio_triangle : (q r s : Ratio) → ratio_abs (ratio_sub q s) ≼ ratio_add (ratio_abs (ratio_sub q r)) (ratio_abs (ratio_sub r s))
 ratio_triangle q r s =
     let t = three q r s in
     over_le _ _ t.d _ _ (over_abs _ _ _ (over_sub _ _ _ _ _ t.first t.third))
@@ -92,30 +93,27 @@ ratio_triangle q r s =
     (omega (arith, ints))
 
 -- ---- order
-pub ratio_le_refl : (q : Ratio) → RatioLe q q
-ratio_le_refl q = over_le _ _ _ _ _ (over_itself q) (over_itself q) (omega (arith, ints))
-
-pub ratio_le_trans : (q r s : Ratio) → RatioLe q r → RatioLe r s → RatioLe q s
+pub ratio_le_trans : (q r s : Ratio) → q ≼ r → r ≼ s → q ≼ s
 ratio_le_trans q r s h k =
     let t = three q r s in
     let a = le_over _ _ _ _ _ t.first t.second h in
     let b = le_over _ _ _ _ _ t.second t.third k in
     over_le _ _ _ _ _ t.first t.third (omega (arith, ints))
 
-add_le_left : (q r s : Ratio) → RatioLe q r → RatioLe (ratio_add q s) (ratio_add r s)
+add_le_left : (q r s : Ratio) → q ≼ r → ratio_add q s ≼ ratio_add r s
 add_le_left q r s h =
     let t = three q r s in
     let a = le_over _ _ _ _ _ t.first t.second h in
     over_le _ _ _ _ _ (over_add _ _ _ _ _ t.first t.third) (over_add _ _ _ _ _ t.second t.third) (omega (arith, ints))
 
-pub ratio_add_le : (q r s t : Ratio) → RatioLe q r → RatioLe s t → RatioLe (ratio_add q s) (ratio_add r t)
+pub ratio_add_le : (q r s t : Ratio) → q ≼ r → s ≼ t → ratio_add q s ≼ ratio_add r t
 ratio_add_le q r s t h k =
     let a = add_le_left q r s h in
     let b = add_le_left s t r k in
     ratio_le_trans (ratio_add q s) (ratio_add r s) (ratio_add r t) a
-    (subst (λ x. RatioLe (ratio_add r s) x) (ratio_add_comm t r) (subst (λ x. RatioLe x (ratio_add t r)) (ratio_add_comm s r) b))
+    (subst (λ x. ratio_add r s ≼ x) (ratio_add_comm t r) (subst (λ x. x ≼ ratio_add t r) (ratio_add_comm s r) b))
 
-pub ratio_le_antisymm : (q r : Ratio) → RatioLe q r → RatioLe r q → q ≡ r
+pub ratio_le_antisymm : (q r : Ratio) → q ≼ r → r ≼ q → q ≡ r
 ratio_le_antisymm q r h k =
     let t = three q r r in
     let a = le_over _ _ _ _ _ t.first t.second h in

@@ -2,6 +2,7 @@ pub mod Euclid
 pub mod Over
 pub mod Parts
 pub mod Order
+pub mod AtMost
 pub mod Additive
 pub mod Scale
 pub mod SumLaws

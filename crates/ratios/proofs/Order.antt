@@ -9,7 +9,7 @@ use Rattle.std.proofs.lemmas.Int.{ints, by_lt_z}
 use Rattle.std.proofs.lemmas.Cmp.{int_cmp_total, int_ranked, tied_itself}
 use Rattle.ratios.specs.Ratio.{Ratio, ratio_cmp}
 use Rattle.ratios.specs.Code.{same_parts}
-use Rattle.ratios.proofs.Over.{IsOver, over_itself, over_scaled, common, le_over, over_le, same_cross}
+use Rattle.ratios.proofs.Over.{IsOver, over_itself, over_scaled, common, cross_from_whole, same_cross, whole_from_cross}
 
 -- whole numbers a, b and c with q = a / d, r = b / d and s = c / d
 pub record Three (q r s : Ratio) : Type 0 where
@@ -49,12 +49,12 @@ lt_not_le : (a b : ℤ) → a <ℤ b → ¬ (b ≤ℤ a)
 lt_not_le a b h k = omega (arith, ints)
 
 pub lt_over : (z y : ℤ) (d : ℕ) (q r : Ratio) → IsOver z d q → IsOver y d r → (q.num *ℤ pos r.den) <ℤ (r.num *ℤ pos q.den) → z <ℤ y
-lt_over z y d q r h k lt = by_lt_z z y (λ t. t) (λ t. absurd (lt_not_le (q.num *ℤ pos r.den) (r.num *ℤ pos q.den) lt (over_le y z d r q k h t)))
+lt_over z y d q r h k lt = by_lt_z z y (λ t. t) (λ t. absurd (lt_not_le (q.num *ℤ pos r.den) (r.num *ℤ pos q.den) lt (cross_from_whole y z d r q k h t)))
 
 pub cmp_over : (z y : ℤ) (d : ℕ) (q r : Ratio) → IsOver z d q → IsOver y d r → ratio_cmp q r ≡ int_cmp z y
 cmp_over z y d q r h k =
-    let x = same_lt (q.num *ℤ pos r.den) (r.num *ℤ pos q.den) z y (lt_over z y d q r h k) (le_over y z d r q k h) in
-    let w = same_lt (r.num *ℤ pos q.den) (q.num *ℤ pos r.den) y z (lt_over y z d r q k h) (le_over z y d q r h k) in
+    let x = same_lt (q.num *ℤ pos r.den) (r.num *ℤ pos q.den) z y (lt_over z y d q r h k) (whole_from_cross y z d r q k h) in
+    let w = same_lt (r.num *ℤ pos q.den) (q.num *ℤ pos r.den) y z (lt_over y z d r q k h) (whole_from_cross z y d q r h k) in
     ap₂ (λ s t. cond s Less (cond t Greater Equal)) x w
 
 pub ratio_cmp_total : IsTotalOrder ratio_cmp

@@ -4,7 +4,7 @@ use Rattle.std.proofs.lemmas.Int.{ints, unsigned_abs-mul}
 use Rattle.std.proofs.Math.Nat.{mul-le-mul_right, mul-pos, eq_of_mul-eq-mul_right, le_of_mul-le-mul_right}
 use borrow.Author.Differences.{up, down, neg_is, product_is}
 use Rattle.ratios.specs.Reduced.{quotients_times_gcd}
-use Rattle.ratios.specs.Ratio.{Ratio, reduced, ratio, ratio_add, ratio_sub, ratio_mul, ratio_div, ratio_neg, ratio_abs, ratio_half, RatioLe}
+use Rattle.ratios.specs.Ratio.{Ratio, reduced, ratio, ratio_add, ratio_sub, ratio_mul, ratio_div, ratio_neg, ratio_abs, ratio_half}
 use Rattle.ratios.specs.Code.{same_parts}
 use Rattle.ratios.proofs.Euclid.{same_denominator}
 
@@ -90,8 +90,8 @@ pub same_over : (z : ℤ) (d : ℕ) (q r : Ratio) → IsOver z d q → IsOver z 
 same_over z d q r h k = same_cross q r (moved z r.num q.num d r.den q.den h.some h.cross (sym k.cross))
 
 -- ---- the order, over one denominator
-pub le_over : (z y : ℤ) (d : ℕ) (q r : Ratio) → IsOver z d q → IsOver y d r → RatioLe q r → z ≤ℤ y
-le_over z y d q r h k le =
+pub whole_from_cross : (z y : ℤ) (d : ℕ) (q r : Ratio) → IsOver z d q → IsOver y d r → (q.num *ℤ pos r.den) ≤ℤ (r.num *ℤ pos q.den) → z ≤ℤ y
+whole_from_cross z y d q r h k le =
     let a = ap (λ n. n * r.den) (cross_parts q.num z d q.den h.cross) in
     let b = ap (λ n. n * q.den) (cross_parts r.num y d r.den k.cross) in
     let c = mul-le-mul_right d (le_parts q.num r.num r.den q.den le) in
@@ -99,8 +99,8 @@ le_over z y d q r h k le =
     let u : up z + down y ≤ up y + down z = le_of_mul-le-mul_right t (mul-pos q.positive r.positive) in
     omega (arith, ints, u)
 
-pub over_le : (z y : ℤ) (d : ℕ) (q r : Ratio) → IsOver z d q → IsOver y d r → z ≤ℤ y → RatioLe q r
-over_le z y d q r h k le =
+pub cross_from_whole : (z y : ℤ) (d : ℕ) (q r : Ratio) → IsOver z d q → IsOver y d r → z ≤ℤ y → (q.num *ℤ pos r.den) ≤ℤ (r.num *ℤ pos q.den)
+cross_from_whole z y d q r h k le =
     let a = ap (λ n. n * r.den) (cross_parts q.num z d q.den h.cross) in
     let b = ap (λ n. n * q.den) (cross_parts r.num y d r.den k.cross) in
     let u : up z + down y ≤ up y + down z = omega (arith, ints, le) in

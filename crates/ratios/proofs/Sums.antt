@@ -1,15 +1,14 @@
 -- What a loop that adds weights one by one knows of `ratio_sum` and `first_out_of_range`.
-use Rattle.std.specs.Prelude.{ℕ, zero, suc, ◌+◌, ◌<◌, ◌≤◌, ◌≡◌, Bool, true, false, not, cond, List, [], ◌∷◌, length, take, drop, fold, All, Option, Some, None, refl}
+use Rattle.std.specs.Prelude.{ℕ, zero, suc, ◌+◌, ◌<◌, ◌≤◌, ◌≡◌, Bool, true, false, not, cond, List, [], ◌∷◌, length, take, drop, fold, ◌↔◌, Option, Some, None, refl}
 use Rattle.std.specs.List.{position_from}
-use Rattle.std.proofs.Common.{arith, sym, ap, ◌∙◌, get_or}
+use Rattle.std.proofs.Common.{arith, sym, ap, subst, ◌∙◌, get_or}
 use Rattle.std.proofs.lemmas.List.Sums.{fold_more}
-use Rattle.std.proofs.lemmas.Bool.{not-false}
+use Rattle.std.proofs.lemmas.Bool.{and_from, and_parts, not-false}
 use Rattle.std.proofs.lemmas.List.{drop_more}
-use Rattle.std.proofs.lemmas.List.Elements.{All-cons}
 use Rattle.std.proofs.Math.ListN.{drop_of_length-le}
 use Rattle.ratios.specs.Ratio.{Ratio, ratio_add, zero_ratio}
-use Rattle.ratios.specs.Range.{in_range, InRange}
-use Rattle.ratios.specs.Sums.{ratio_sum, running_sums, running_sums_after, RunsInRange, first_out_of_range}
+use Rattle.ratios.specs.Range.{all_in_range, in_range, InRange}
+use Rattle.ratios.specs.Sums.{ratio_sum, running_sums, running_sums_after, runs_in_range, first_out_of_range}
 use Rattle.ratios.proofs.Range.{in_range-out}
 
 abbrev is_out : Ratio → Bool
@@ -64,21 +63,20 @@ pub first_passes : (b : Bool) (i : ℕ) (o : Option ℕ) → cond b (Some i) o �
 first_passes true i o e = cc
 first_passes false i o e = (refl, e)
 
-all_if_none : (i : ℕ) (qs : List Ratio) → position_from is_out i qs ≡ None → All InRange qs
-all_if_none i [] e = λ k d lt. absurd (omega arith)
+all_if_none : (i : ℕ) (qs : List Ratio) → position_from is_out i qs ≡ None → all_in_range qs ≡ true
+all_if_none i [] e = refl
 all_if_none i (q ∷ qs) e =
     let p = first_passes (not (in_range q)) i (position_from is_out (i + 1) qs) e in
-    All-cons InRange q qs (not-false (in_range q) p.0) (all_if_none (i + 1) qs p.1)
+    and_from (in_range q) (all_in_range qs) (not-false (in_range q) p.0) (all_if_none (i + 1) qs p.1)
 
-none_if_all : (i : ℕ) (qs : List Ratio) → All InRange qs → position_from is_out i qs ≡ None
+none_if_all : (i : ℕ) (qs : List Ratio) → all_in_range qs ≡ true → position_from is_out i qs ≡ None
 none_if_all i [] h = refl
-none_if_all i (q ∷ qs) h = place_in i q qs (h 0 q (omega arith)) ∙ none_if_all (i + 1) qs (λ k d lt. h (suc k) d (omega arith))
+none_if_all i (q ∷ qs) h =
+    let p = and_parts (in_range q) (all_in_range qs) h in
+    place_in i q qs p.0 ∙ none_if_all (i + 1) qs p.1
 
-pub RunsInRange-from_none : (ws : List Ratio) → first_out_of_range ws ≡ None → RunsInRange ws
-RunsInRange-from_none ws e = all_if_none 0 (running_sums ws) e
-
-pub none_from_RunsInRange : (ws : List Ratio) → RunsInRange ws → first_out_of_range ws ≡ None
-none_from_RunsInRange ws h = none_if_all 0 (running_sums ws) h
+pub runs_in_range_is_no_place : (ws : List Ratio) → (runs_in_range ws ≡ true) ↔ (first_out_of_range ws ≡ None)
+runs_in_range_is_no_place ws = (none_if_all 0 (running_sums ws), all_if_none 0 (running_sums ws))
 
 -- ---- each running sum is the sum of a front
 length-running_sums_after : (q : Ratio) (ws : List Ratio) → length (running_sums_after q ws) ≡ length ws
@@ -96,3 +94,21 @@ running_sum_after_at q (w ∷ ws) (suc k) d h =
 pub running_sums_are_of_fronts : (ws : List Ratio) → (length (running_sums ws) ≡ length ws) ×
     ((k : ℕ) (d : Ratio) → k < length ws → get_or (running_sums ws) k d ≡ ratio_sum (take (k + 1) ws))
 running_sums_are_of_fronts ws = (length-running_sums_after zero_ratio ws, running_sum_after_at zero_ratio ws)
+
+-- ---- the sums on the way are in range just where that of each front is
+all_at : (qs : List Ratio) → all_in_range qs ≡ true → (k : ℕ) (d : Ratio) → k < length qs → InRange (get_or qs k d)
+all_at [] h k d lt = absurd (omega arith)
+all_at (q ∷ qs) h zero d lt = (and_parts (in_range q) (all_in_range qs) h).0
+all_at (q ∷ qs) h (suc k) d lt = all_at qs (and_parts (in_range q) (all_in_range qs) h).1 k d (omega arith)
+
+all_from : (qs : List Ratio) (d : Ratio) → ((k : ℕ) → k < length qs → InRange (get_or qs k d)) → all_in_range qs ≡ true
+all_from [] d h = refl
+all_from (q ∷ qs) d h = and_from (in_range q) (all_in_range qs) (h 0 (omega arith)) (all_from qs d (λ k lt. h (suc k) (omega arith)))
+
+pub runs_in_range_by_fronts : (ws : List Ratio) → (runs_in_range ws ≡ true) ↔ ((k : ℕ) → k < length ws → InRange (ratio_sum (take (k + 1) ws)))
+runs_in_range_by_fronts ws =
+    let fronts = running_sums_are_of_fronts ws in
+    let d = zero_ratio in (
+      λ h k lt. subst InRange (fronts.1 k d lt) (all_at (running_sums ws) h k d (subst (λ n. k < n) (sym fronts.0) lt)),
+      λ h. all_from (running_sums ws) d (λ k lt. let below = subst (λ n. k < n) fronts.0 lt in subst InRange (sym (fronts.1 k d below)) (h k below)),
+    )

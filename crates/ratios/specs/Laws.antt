@@ -1,8 +1,9 @@
 -- Laws of the ratios, each the contract of a function.
-use Rattle.std.specs.Prelude.{ℕ, ◌+◌, ◌<◌, ◌≡◌, ◌≢◌, ◌↔◌, ℤ, pos, ◌*ℤ◌, List, ◌++◌, length, take, slice_index_or, IsPermutation, None}
+use Rattle.std.specs.Prelude.{ℕ, ◌+◌, ◌<◌, ◌≡◌, ◌≢◌, ◌↔◌, true, not, ℤ, pos, ◌*ℤ◌, ◌≤ℤ◌, List, ◌++◌, length, take, slice_index_or, IsPermutation, None}
 use Rattle.std.specs.declared.cmp.Ordering.TheVariants.{Equal}
-use Rattle.ratios.specs.Ratio.{Ratio, ratio, ratio_add, ratio_sub, ratio_abs, ratio_cmp, RatioLe, zero_ratio}
-use Rattle.ratios.specs.Sums.{ratio_sum, running_sums, RunsInRange, first_out_of_range}
+use Rattle.ratios.specs.Ratio.{Ratio, ratio, ratio_add, ratio_sub, ratio_abs, ratio_cmp, is_at_most, is_below, ◌≼◌, zero_ratio}
+use Rattle.ratios.specs.Range.{InRange}
+use Rattle.ratios.specs.Sums.{ratio_sum, running_sums, runs_in_range, first_out_of_range}
 
 -- `ratio z w` is z / w
 abbrev pub RatioIsQuotient : Type 0
@@ -11,6 +12,14 @@ RatioIsQuotient = (z w : ℤ) → w ≢ pos 0 → (ratio z w).num *ℤ w ≡ z *
 -- two ratios with equal cross products are equal
 abbrev pub CrossProductsDecide : Type 0
 CrossProductsDecide = (q r : Ratio) → q.num *ℤ pos r.den ≡ r.num *ℤ pos q.den → q ≡ r
+
+-- q is at most r just where its cross product is
+abbrev pub AtMostByCrossProducts : Type 0
+AtMostByCrossProducts = (q r : Ratio) → (q ≼ r) ↔ ((q.num *ℤ pos r.den) ≤ℤ (r.num *ℤ pos q.den))
+
+-- q is below r just where r isn't at most q
+abbrev pub BelowIsNotAtLeast : Type 0
+BelowIsNotAtLeast = (q r : Ratio) → is_below q r ≡ not (is_at_most r q)
 
 -- a tie is equality
 abbrev pub TieIsEquality : Type 0
@@ -54,21 +63,25 @@ AbsOfZero = ratio_abs zero_ratio ≡ zero_ratio
 
 -- 0 is at most |q|
 abbrev pub AbsIsNonnegative : Type 0
-AbsIsNonnegative = (q : Ratio) → RatioLe zero_ratio (ratio_abs q)
+AbsIsNonnegative = (q : Ratio) → zero_ratio ≼ ratio_abs q
 
 -- |q + r| is at most |q| + |r|
 abbrev pub AbsOfSum : Type 0
-AbsOfSum = (q r : Ratio) → RatioLe (ratio_abs (ratio_add q r)) (ratio_add (ratio_abs q) (ratio_abs r))
+AbsOfSum = (q r : Ratio) → ratio_abs (ratio_add q r) ≼ ratio_add (ratio_abs q) (ratio_abs r)
 
 -- |q - s| is at most |q - r| + |r - s|
 abbrev pub TriangleInequality : Type 0
-TriangleInequality = (q r s : Ratio) → RatioLe (ratio_abs (ratio_sub q s)) (ratio_add (ratio_abs (ratio_sub q r)) (ratio_abs (ratio_sub r s)))
+TriangleInequality = (q r s : Ratio) → ratio_abs (ratio_sub q s) ≼ ratio_add (ratio_abs (ratio_sub q r)) (ratio_abs (ratio_sub r s))
 
 -- there are as many running sums as members, and each is the sum of a front
 abbrev pub RunningSumsAreOfFronts : Type 0
 RunningSumsAreOfFronts = (ws : List Ratio) → (length (running_sums ws) ≡ length ws) ×
     ((k : ℕ) (d : Ratio) → k < length ws → slice_index_or (running_sums ws) k d ≡ ratio_sum (take (k + 1) ws))
 
--- no place is out of range just where each running sum is in range
+-- the sums on the way are in range just where that of each front is
+abbrev pub RunsInRangeByFronts : Type 0
+RunsInRangeByFronts = (ws : List Ratio) → (runs_in_range ws ≡ true) ↔ ((k : ℕ) → k < length ws → InRange (ratio_sum (take (k + 1) ws)))
+
+-- no place is out of range just where the sums on the way are in range
 abbrev pub NoPlaceOutOfRange : Type 0
-NoPlaceOutOfRange = (ws : List Ratio) → RunsInRange ws ↔ (first_out_of_range ws ≡ None)
+NoPlaceOutOfRange = (ws : List Ratio) → (runs_in_range ws ≡ true) ↔ (first_out_of_range ws ≡ None)

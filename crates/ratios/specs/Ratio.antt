@@ -1,7 +1,7 @@
 -- Ratios: the rational numbers, as unbounded reduced pairs.
-use Rattle.std.specs.Prelude.{ℕ, zero, suc, ◌*◌, ◌/◌, ◌^◌, ◌<◌, ℤ, pos, negsuc, ◌+ℤ◌, ◌-ℤ◌, ◌*ℤ◌, neg_ℤ, ◌≤ℤ◌, unsigned_abs, int_div}
+use Rattle.std.specs.Prelude.{ℕ, zero, suc, ◌*◌, ◌/◌, ◌^◌, ◌<◌, ◌≡◌, Bool, true, if◌then◌else◌, ℤ, pos, negsuc, ◌+ℤ◌, ◌-ℤ◌, ◌*ℤ◌, neg_ℤ, unsigned_abs, int_div}
 use Rattle.std.specs.Int.{IsGcd, int_div_euclid}
-use Rattle.std.specs.Ordering.{int_cmp}
+use Rattle.std.specs.Ordering.{int_cmp, is_le, is_lt}
 use Rattle.std.specs.declared.cmp.Ordering.{Ordering}
 use Rattle.ratios.specs.Gcd.{gcd}
 use Rattle.ratios.specs.Reduced.{quotient_positive, parts_coprime, one_coprime, one_positive}
@@ -73,12 +73,29 @@ ratio_abs q = ratio (pos (unsigned_abs q.num)) (pos q.den)
 abbrev pub ratio_floor_units : Ratio → ℤ
 ratio_floor_units q = int_div_euclid (q.num *ℤ pos (2 ^ 20)) (pos q.den)
 
--- ---- their order, by cross products
+-- ---- their order
 
--- how q and r compare
+-- how q and r compare, by their cross products
 abbrev pub ratio_cmp : Ratio → Ratio → Ordering
 ratio_cmp q r = int_cmp (q.num *ℤ pos r.den) (r.num *ℤ pos q.den)
 
 -- q is at most r
-abbrev pub RatioLe : Ratio → Ratio → Type 0
-RatioLe q r = (q.num *ℤ pos r.den) ≤ℤ (r.num *ℤ pos q.den)
+abbrev pub is_at_most : Ratio → Ratio → Bool
+is_at_most q r = is_le (ratio_cmp q r)
+
+-- q is below r
+abbrev pub is_below : Ratio → Ratio → Bool
+is_below q r = is_lt (ratio_cmp q r)
+
+-- that q is at most r
+infix 50 ◌≼◌
+abbrev pub ◌≼◌ : Ratio → Ratio → Type 0
+q ≼ r = is_at_most q r ≡ true
+
+-- the greater of two
+abbrev pub ratio_max : Ratio → Ratio → Ratio
+ratio_max q r = if is_at_most q r then r else q
+
+-- the less of two
+abbrev pub ratio_min : Ratio → Ratio → Ratio
+ratio_min q r = if is_at_most q r then q else r

@@ -1,8 +1,8 @@
 -- Sums of ratios from the front, and whether each of them is in range.
-use Rattle.std.specs.Prelude.{ℕ, not, List, [], ◌∷◌, fold, All, Option}
+use Rattle.std.specs.Prelude.{ℕ, Bool, not, List, [], ◌∷◌, fold, Option}
 use Rattle.std.specs.List.{position_from}
 use Rattle.ratios.specs.Ratio.{Ratio, ratio_add, zero_ratio}
-use Rattle.ratios.specs.Range.{in_range, InRange}
+use Rattle.ratios.specs.Range.{all_in_range, in_range}
 
 -- the sum from the front
 abbrev pub ratio_sum : List Ratio → Ratio
@@ -18,8 +18,8 @@ abbrev pub running_sums : List Ratio → List Ratio
 running_sums ws = running_sums_after zero_ratio ws
 
 -- each sum on the way is in range
-abbrev pub RunsInRange : List Ratio → Type 0
-RunsInRange ws = All InRange (running_sums ws)
+abbrev pub runs_in_range : List Ratio → Bool
+runs_in_range ws = all_in_range (running_sums ws)
 
 -- the first place whose sum is out of range
 abbrev pub first_out_of_range : List Ratio → Option ℕ

@@ -5,7 +5,7 @@
 #![tactic(auto)]
 
 ghost use Rattle.std.specs.Cmp.{IsTotalOrder};
-ghost use Rattle.ratios.specs.Laws.{AbsIsNonnegative, AbsOfSum, AbsOfZero, AddIsAssociative, AddIsCommutative, AddZeroIsSame, CrossProductsDecide, DifferenceAddsBack, DifferenceToItself, NoDifferenceIsEquality, NoPlaceOutOfRange, RatioIsQuotient, RunningSumsAreOfFronts, SumIsOrderFree, SumOfAppended, TieIsEquality, TriangleInequality};
+ghost use Rattle.ratios.specs.Laws.{AbsIsNonnegative, AbsOfSum, AbsOfZero, AddIsAssociative, AddIsCommutative, AddZeroIsSame, AtMostByCrossProducts, BelowIsNotAtLeast, CrossProductsDecide, DifferenceAddsBack, DifferenceToItself, NoDifferenceIsEquality, NoPlaceOutOfRange, RatioIsQuotient, RunningSumsAreOfFronts, RunsInRangeByFronts, SumIsOrderFree, SumOfAppended, TieIsEquality, TriangleInequality};
 ghost use Rattle.ratios.specs.Ratio.{ratio_cmp};
 
 /// The ratio of two whole numbers is their quotient, and each quotient is one ratio.
@@ -14,9 +14,11 @@ pub fn law_reduced()
     ensures one_ratio_each { CrossProductsDecide }
 {}
 
-/// Ratios are totally ordered, and only equal ones tie.
+/// Ratios are totally ordered, by their cross products, and only equal ones tie.
 pub fn law_order()
     ensures total { IsTotalOrder ratio_cmp }
+    ensures at_most { AtMostByCrossProducts }
+    ensures below { BelowIsNotAtLeast }
     ensures tie { TieIsEquality }
 {}
 
@@ -30,9 +32,10 @@ pub fn law_sums()
     ensures order_free { SumIsOrderFree }
 {}
 
-/// The running sums are those of the fronts, and the first of them that is out of range is found.
+/// The running sums are those of the fronts: whether all are in range, and the first that isn't.
 pub fn law_running_sums()
     ensures fronts { RunningSumsAreOfFronts }
+    ensures in_range { RunsInRangeByFronts }
     ensures place { NoPlaceOutOfRange }
 {}
 

@@ -3,8 +3,9 @@ use Rattle.std.proofs.Common.{◌≡◌, ◌≢◌, ◌≤◌, ℕ, true, Bool, 
 use Rattle.std.specs.Prelude.{All, None, ◌⊎◌}
 use Rattle.std.proofs.lemmas.List.Elements.{All-head, All-tail}
 use Rattle.std.proofs.lemmas.Int.{ints}
-use Rattle.ratios.specs.Ratio.{RatioLe, zero_ratio}
+use Rattle.ratios.specs.Ratio.{zero_ratio, ◌≼◌}
 use Rattle.ratios.specs.Range.{InRange}
+use Rattle.ratios.proofs.AtMost.{at_most_itself}
 use Rattle.ratios.proofs.Range.{InRange-from_bounds}
 use Rattle.record_text.specs.KindLists.{kinds_of}
 use Rattle.record_text.specs.declared.kinds.Kind.{Kind}
@@ -22,16 +23,12 @@ pub zero_in_range : InRange zero_ratio
 unfolding zero_ratio
 zero_in_range = InRange-from_bounds zero_ratio (omega arith) (omega arith)
 
-zero_not_below : RatioLe zero_ratio zero_ratio
-unfolding zero_ratio
-zero_not_below = omega (arith, ints)
-
 -- a source as it is declared
 pub new_is_sound : (name : List ℕ) (kinds : List Kind) (signed : Bool) (total : ℕ) → total ≤ 1000000000000000 → IsSoundSource (new_source name kinds signed total)
 new_is_sound name kinds signed total within = record {
   typed = record {
     kinds_kept = λ row some. absurd (some (at-empty row));
-    sign_kept = inr (λ row. subst (RatioLe zero_ratio) (sym (at-empty row)) zero_not_below);
+    sign_kept = inr (λ row. subst (λ q. zero_ratio ≼ q) (sym (at-empty row)) (at_most_itself zero_ratio));
   };
   in_range = λ row. subst InRange (sym (at-empty row)) zero_in_range;
   spent_within = omega arith;
@@ -47,8 +44,8 @@ kinds_added kinds A (one ∷ added) all = (
   kinds_added kinds (add_at one.row one.weight A) added (All-tail (λ (w : Weighted). kinds_of w.row ≡ kinds) one added all),
 )
 
-sign_after : (signed : Bool) (A : Dataset) (es : Entries) → (signed ≡ true) ⊎ ((row : Row) → RatioLe zero_ratio (at A row))
-    → (signed ≡ true) ⊎ (first_negative A es ≡ None) → (signed ≡ true) ⊎ ((row : Row) → RatioLe zero_ratio (at (with_added A es) row))
+sign_after : (signed : Bool) (A : Dataset) (es : Entries) → (signed ≡ true) ⊎ ((row : Row) → zero_ratio ≼ at A row)
+    → (signed ≡ true) ⊎ (first_negative A es ≡ None) → (signed ≡ true) ⊎ ((row : Row) → zero_ratio ≼ at (with_added A es) row)
 sign_after signed A es (inl free) allowed = inl free
 sign_after signed A es (inr before) (inl free) = inl free
 sign_after signed A es (inr before) (inr none) = inr (with_added-nonnegative A es before none)

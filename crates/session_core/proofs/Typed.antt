@@ -2,7 +2,7 @@
 use Rattle.std.proofs.Common.{◌≡◌, ℕ, zero, suc, List, [], ◌∷◌, Bool, true, false, sym, subst, ◌∙◌, inl, inr, true≢false}
 use Rattle.std.specs.Prelude.{All, ◌⊎◌}
 use Rattle.std.proofs.lemmas.List.Elements.{All-head, All-tail}
-use Rattle.ratios.specs.Ratio.{RatioLe, zero_ratio}
+use Rattle.ratios.specs.Ratio.{zero_ratio, ◌≼◌}
 use Rattle.ratios.specs.Range.{InRange}
 use Rattle.datasets.specs.Entries.{Row}
 use Rattle.datasets.specs.Dataset.{Dataset, at, rows}
@@ -16,7 +16,7 @@ use Rattle.session_core.specs.Sound.{IsSoundSource}
 use Rattle.session_core.specs.State.{SourceState, family_of, type_of, types_of}
 use Rattle.session_core.proofs.SourceLemmas.{zero_in_range}
 
-signs_kept : (signed : Bool) (A : Dataset) → (signed ≡ true) ⊎ ((row : Row) → RatioLe zero_ratio (at A row)) → signed ≡ false → (row : Row) → RatioLe zero_ratio (at A row)
+signs_kept : (signed : Bool) (A : Dataset) → (signed ≡ true) ⊎ ((row : Row) → zero_ratio ≼ at A row) → signed ≡ false → (row : Row) → zero_ratio ≼ at A row
 signs_kept signed A (inl free) strict = absurd (true≢false (sym free ∙ strict))
 signs_kept signed A (inr none) strict = none
 

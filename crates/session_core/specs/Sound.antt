@@ -1,7 +1,7 @@
 -- What holds of every state.
 use Rattle.std.specs.Prelude.{◌≡◌, ◌≢◌, ◌≤◌, ◌⊎◌, Bool, true, All, IsTrue, List, None, length, map}
 use Rattle.std.specs.List.{IsDistinct}
-use Rattle.ratios.specs.Ratio.{RatioLe, zero_ratio}
+use Rattle.ratios.specs.Ratio.{zero_ratio, ◌≼◌}
 use Rattle.ratios.specs.Range.{InRange}
 use Rattle.record_text.specs.KindLists.{kinds_of}
 use Rattle.record_text.specs.Names.{name_eq}
@@ -18,7 +18,7 @@ use Rattle.session_core.specs.State.{PlanState, SourceState, State, family_of, t
 -- each row that weighs something has the declared kinds, and no weight is below 0 unless that is declared
 pub record KeepsType (kinds : List Kind) (signed : Bool) (A : Dataset) : Type 0 where
   pub kinds_kept : (row : Row) → at A row ≢ zero_ratio → kinds_of row ≡ kinds
-  pub sign_kept : (signed ≡ true) ⊎ ((row : Row) → RatioLe zero_ratio (at A row))
+  pub sign_kept : (signed ≡ true) ⊎ ((row : Row) → zero_ratio ≼ at A row)
 
 -- the rows keep the source's type and have weights in range, and no more is spent than there is
 pub record IsSoundSource (source : SourceState) : Type 0 where

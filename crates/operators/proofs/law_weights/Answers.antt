@@ -1,12 +1,11 @@
-use Rattle.ratios.specs.Ratio.{ratio_add, ratio_sub, zero_ratio}
+use Rattle.ratios.specs.Ratio.{ratio_add, ratio_max, ratio_min, ratio_sub, zero_ratio}
 use Rattle.ratios.proofs.Additive.{ratio_add_zero, ratio_sub_itself}
+use Rattle.ratios.proofs.AtMost.{ratio_max_itself, ratio_min_itself}
 use Rattle.datasets.specs.Dataset.{at, rows}
-use Rattle.operators.specs.Weights.{ratio_max, ratio_min}
 use Rattle.operators.specs.Operators.{both_rows, cells, group_row, half_gap, joint_weight, key_levels, matches, numbered, piece}
 use Rattle.operators.proofs.Gathered.{at-gathered}
 use Rattle.operators.proofs.Tabulated.{at-filtered, at-pointwise}
 use Rattle.operators.proofs.Shares.{at-spread}
-use Rattle.operators.proofs.Order.{ratio_max_itself, ratio_min_itself}
 use Rattle.operators.proofs.law_weights.Goals as goal
 
 pub returns : goal.returns

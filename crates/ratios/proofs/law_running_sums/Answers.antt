@@ -1,5 +1,5 @@
-use Rattle.ratios.proofs.Sums.{running_sums_are_of_fronts, RunsInRange-from_none, none_from_RunsInRange}
+use Rattle.ratios.proofs.Sums.{running_sums_are_of_fronts, runs_in_range_by_fronts, runs_in_range_is_no_place}
 use Rattle.ratios.proofs.law_running_sums.Goals as goal
 
 pub returns : goal.returns
-returns c = record { fronts = running_sums_are_of_fronts; place = λ ws. (none_from_RunsInRange ws, RunsInRange-from_none ws) }
+returns c = record { fronts = running_sums_are_of_fronts; in_range = runs_in_range_by_fronts; place = runs_in_range_is_no_place }
