@@ -13,7 +13,7 @@ use Rattle.dataflow.specs.declared.wire.Wire.TheVariants.{Source}
 use Rattle.datasets.specs.Dataset.{empty}
 use Rattle.record_text.proofs.Lists.{front_more, map-front_more}
 use Rattle.plan_checker.proofs.Parts.{step_of_plan}
-use Rattle.plan_model.proofs.Accepted.{Passes, Passes-fault_after}
+use Rattle.plan_model.proofs.Accepted.{PassesAfter, Passes-fault_after}
 use Rattle.plan_model.proofs.StepByStep.{length-step_by_step_after, step_by_step_after-snoc}
 use Rattle.plan_model.specs.Acceptance.{fault_after}
 use Rattle.plan_model.specs.Evaluation.{Family, step_by_step, step_by_step_after}
@@ -33,14 +33,14 @@ use Rattle.flow_graph.specs.Steps.{fits_of, output_of, wire_of}
 use Rattle.flow_graph.specs.declared.flow.FlowGraphOf.{FlowGraphOf}
 
 -- ---- the checks of each step
-Passes-at : (types : List SourceType) (before ss : List Step) (i : ℕ) (s : Step) → fault_after types before ss ≡ None → slice_get ss i ≡ Some s → Passes types (before ++ take i ss) s
+Passes-at : (types : List SourceType) (before ss : List Step) (i : ℕ) (s : Step) → fault_after types before ss ≡ None → slice_get ss i ≡ Some s → PassesAfter types (before ++ take i ss) s
 Passes-at types before [] i s none at = cc
 Passes-at types before (t ∷ ss) zero s none at =
     let parts = Passes-fault_after types before t ss none in
-    subst (λ b. Passes types b s) (sym (append-nil before)) (subst (Passes types before) (same_Some t s at) parts.0)
+    subst (λ b. PassesAfter types b s) (sym (append-nil before)) (subst (PassesAfter types before) (same_Some t s at) parts.0)
 Passes-at types before (t ∷ ss) (suc i) s none at =
     let parts = Passes-fault_after types before t ss none in
-    subst (λ b. Passes types b s) (append_assoc before (t ∷ []) (take i ss)) (Passes-at types (before ++ t ∷ []) ss i s parts.1 at)
+    subst (λ b. PassesAfter types b s) (append_assoc before (t ∷ []) (take i ss)) (Passes-at types (before ++ t ∷ []) ss i s parts.1 at)
 
 -- ---- what is made of the first steps
 module _ {X : Type 0} (f : Step → List X → X) where
@@ -84,7 +84,7 @@ module _ {N : Type 0} (op : Ghosts N) (plan : List Step) (types : List SourceTyp
           ap length built.of_columns ∙ omega arith
 
       -- the next step passes its checks
-      pub Passes-next : Passes types (take count plan) s
+      pub Passes-next : PassesAfter types (take count plan) s
       Passes-next = Passes-at types [] plan count s kept.accepted at
 
       whole_columns : (n : N) → IsFreshNode op n types s cs → IsFreshNode op n types s (columns plan types)

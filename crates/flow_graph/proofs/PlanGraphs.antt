@@ -1,5 +1,5 @@
 -- The nodes and wires of a plan.
-use Rattle.std.specs.Prelude.{◌≡◌, ℕ, ◌-◌, ◌<◌, Bool, true, is_some, not, List, [], ◌∷◌, length, slice_get, Option, Some, None, option_map, zip, zero, suc}
+use Rattle.std.specs.Prelude.{◌≡◌, ℕ, ◌-◌, ◌<◌, Bool, true, is_some, not, List, [], ◌∷◌, length, slice_get, Option, Some, None, option_map, zero, suc}
 use Rattle.std.specs.List.{AllByRecursion}
 use Rattle.std.proofs.Common.{inl, inr, refl, sym, ap, ap₂, subst, ◌∙◌, true≢false, arith, get_or}
 use Rattle.std.proofs.lemmas.Bool.{true_from_ne_false}
@@ -30,7 +30,7 @@ use Rattle.plan_reader.specs.Steps.{is_built_step}
 use Rattle.weighted_set.specs.Held.{AllInRange}
 use Rattle.weighted_set.specs.declared.operator.Operator.{Ghosts}
 use Rattle.weighted_set.specs.declared.weighted.Change.{Change}
-use Rattle.flow_graph.proofs.PlanSteps.{evals_after-steps, knows_sources, refers_before, step_fits-inside}
+use Rattle.flow_graph.proofs.PlanSteps.{evals_after-steps, knows_sources, refers_before, step_fits-plan}
 use Rattle.flow_graph.specs.Graphs.{AreNodesOf, IsKept, MayStand}
 use Rattle.flow_graph.specs.Steps.{fits_of, output_of, wire_of}
 
@@ -44,17 +44,6 @@ last_at x (y ∷ ys) (suc n) d size = last_at y ys n d (omega arith)
 last_or-get_or : {X : Type 0} (d : X) (xs : List X) (e : X) → 0 < length xs → last_or d xs ≡ get_or xs (length xs - 1) e
 last_or-get_or d [] e some = absurd (omega arith)
 last_or-get_or d (x ∷ xs) e some = last_at x xs (length (x ∷ xs) - 1) e (omega arith)
-
-slice_get-zip : {X Y : Type 0} (xs : List X) (ys : List Y) (i : ℕ) (x : X) (y : Y) → slice_get xs i ≡ Some x → slice_get ys i ≡ Some y → slice_get (zip xs ys) i ≡ Some (x, y)
-slice_get-zip [] ys i x y e f = cc
-slice_get-zip (u ∷ xs) [] i x y e f = cc
-slice_get-zip (u ∷ xs) (v ∷ ys) zero x y e f = ap₂ (λ a b. Some (a, b)) (same_Some u x e) (same_Some v y f)
-slice_get-zip (u ∷ xs) (v ∷ ys) (suc i) x y e f = slice_get-zip xs ys i x y e f
-
-length-zip : {X Y : Type 0} (xs : List X) (ys : List Y) → length ys ≡ length xs → length (zip xs ys) ≡ length xs
-length-zip [] ys e = refl
-length-zip (x ∷ xs) [] e = absurd (omega arith)
-length-zip (x ∷ xs) (y ∷ ys) e = let rest = length-zip xs ys (omega arith) in omega arith
 
 knows_at : (types : List SourceType) (ss : List Step) (i : ℕ) (s : Step) → slice_get ss i ≡ Some s → AllByRecursion (λ s. knows_source types s ≡ true) ss → knows_source types s ≡ true
 knows_at types [] i s at known = cc
@@ -109,56 +98,34 @@ module _ {N : Type 0} (op : Ghosts N) (nodes : List N) (wires : List Wire) (plan
         takes_at op n (wire_at wires i) (λ left A. HasColumns (columns_at (columns plan types) left) A) (evals op nodes wires F) (λ left right is. made.takes i n left right at is)
         (λ left. subst (λ As. HasColumns (columns_at (columns plan types) left) (dataset_at As left)) (sym evals-plan) (accepted_is_typed plan types F left kept.accepted keeps).rows)
 
-    -- the dataset of a step is what its operator makes of its input
-    output-step : (i : ℕ) (s : Step) → slice_get plan i ≡ Some s → step_output (output_of s) (wire_of types s) F (plan_evals plan types F) ≡ dataset_at (plan_evals plan types F) i
-    output-step i s at =
-        let As = plan_evals plan types F in
-        elim (slice_get_cases nodes i).1 as (λ _. step_output (output_of s) (wire_of types s) F As ≡ dataset_at As i) [
-          | inl there ↦
-              let same : op.output there.0 ≡ output_of s = same_Some _ _ (sym (slice_get-map op.output nodes i ∙ ap (option_map op.output) there.2) ∙ ap (λ outputs. slice_get outputs i) made.outputs ∙ slice_get-map output_of plan i ∙ ap (option_map output_of) at) in
-              sym (ap (λ Bs. dataset_at Bs i) (sym evals-plan) ∙ evals-at op nodes wires (length types) F i there.0 (length-nodes ∙ sym length-wires) are_wired there.2
-              ∙ ap (λ o. step_output o (wire_at wires i) F (evals op nodes wires F)) same ∙ ap (λ w. step_output (output_of s) w F (evals op nodes wires F)) (wire_at-step i s at) ∙ ap (step_output (output_of s) (wire_of types s) F) evals-plan)
-          | inr past ↦ absurd (let size = length-nodes in let within = slice_get_within plan i s at in let beyond = past.0 in omega arith)
-        ]
-
     module _ (in_range : (place : ℕ) → AllInRange (dataset_at F place)) where
       -- the operator of a step fits just where the step does
-      fits_at-step : (i : ℕ) (s : Step) → slice_get plan i ≡ Some s → fits_at op nodes wires F i ≡ plan_step_fits (plan_evals plan types F) (s, dataset_at (plan_evals plan types F) i)
+      fits_at-step : (i : ℕ) (s : Step) → slice_get plan i ≡ Some s → fits_at op nodes wires F i ≡ plan_step_fits types F (plan_evals plan types F) s
       fits_at-step i s at =
           ap (λ fits. step_fits (get_or fits i (λ _ _. true)) (wire_at wires i) (evals op nodes wires F)) made.fits
           ∙ ap (λ f. step_fits f (wire_at wires i) (evals op nodes wires F)) (get_or-map_at fits_of plan i s (λ _ _. true) at)
           ∙ ap (λ w. step_fits (fits_of s) w (evals op nodes wires F)) (wire_at-step i s at)
           ∙ ap (step_fits (fits_of s) (wire_of types s)) evals-plan
-          ∙ step_fits-inside types F s (plan_evals plan types F) (dataset_at (plan_evals plan types F) i) (built_at plan types kept i s at) in_range (output-step i s at)
+          ∙ step_fits-plan types F s (plan_evals plan types F) (built_at plan types kept i s at) (known_at plan types kept i s at) in_range
 
-      abbrev misfits : Step × Dataset → Bool
-      misfits s = not (plan_step_fits (plan_evals plan types F) s)
+      abbrev misfits : Step → Bool
+      misfits s = not (plan_step_fits types F (plan_evals plan types F) s)
 
-      length-evaluated : length (zip plan (plan_evals plan types F)) ≡ length plan
-      length-evaluated = length-zip plan (plan_evals plan types F) length-evals
-
-      evaluated_at : (i : ℕ) (s : Step) → slice_get plan i ≡ Some s → slice_get (zip plan (plan_evals plan types F)) i ≡ Some (s, dataset_at (plan_evals plan types F) i)
-      evaluated_at i s at =
-          let within = slice_get_within plan i s at in
-          let size = length-evals in
-          slice_get-zip plan (plan_evals plan types F) i s (dataset_at (plan_evals plan types F) i) at (slice_get-get_or (plan_evals plan types F) i _ (omega arith))
-
-      misfits_at : (i : ℕ) (d : Step × Dataset) → i < length plan → misfits (get_or (zip plan (plan_evals plan types F)) i d) ≡ not (fits_at op nodes wires F i)
-      misfits_at i d within = elim (slice_get_cases plan i).1 as (λ _. misfits (get_or (zip plan (plan_evals plan types F)) i d) ≡ not (fits_at op nodes wires F i)) [
-        | inl there ↦ ap misfits (get_or_from_slice_get (zip plan (plan_evals plan types F)) i _ d (evaluated_at i there.0 there.2)) ∙ ap not (sym (fits_at-step i there.0 there.2))
+      misfits_at : (i : ℕ) (d : Step) → i < length plan → misfits (get_or plan i d) ≡ not (fits_at op nodes wires F i)
+      misfits_at i d within = elim (slice_get_cases plan i).1 as (λ _. misfits (get_or plan i d) ≡ not (fits_at op nodes wires F i)) [
+        | inl there ↦ ap misfits (get_or_from_slice_get plan i _ d there.2) ∙ ap not (sym (fits_at-step i there.0 there.2))
         | inr past ↦ absurd (let beyond = past.0 in omega arith)
       ]
 
       pub misfit-none : ((i : ℕ) → fits_at op nodes wires F i ≡ true) → misfit plan types F ≡ None
       misfit-none fits =
-          let size = length-evaluated in
-          position_none misfits (zip plan (plan_evals plan types F)) (length plan) (omega arith) (λ k d below. misfits_at k d below ∙ ap not (fits k))
+          position_none misfits plan (length plan) (omega arith) (λ k d below. misfits_at k d below ∙ ap not (fits k))
 
       pub misfit-some : (i : ℕ) → IsMisfit op nodes wires F i → misfit plan types F ≡ Some i
       misfit-some i first = elim (slice_get_cases plan i).1 as (λ _. misfit plan types F ≡ Some i) [
         | inl there ↦
             let within = there.1 in
-            position_found misfits (zip plan (plan_evals plan types F)) i _ (evaluated_at i there.0 there.2) (ap not (sym (fits_at-step i there.0 there.2)) ∙ ap not first.here)
+            position_found misfits plan i _ there.2 (ap not (sym (fits_at-step i there.0 there.2)) ∙ ap not first.here)
             (λ k below. misfits_at k _ (omega arith) ∙ ap not (first.earlier k below))
         | inr past ↦ absurd (true≢false (sym (fits_at-past op nodes wires F i (let size = length-wires in let beyond = past.0 in omega arith)) ∙ first.here))
       ]
@@ -166,10 +133,8 @@ module _ {N : Type 0} (op : Ghosts N) (nodes : List N) (wires : List Wire) (plan
       pub fits-each : misfit plan types F ≡ None → (i : ℕ) → fits_at op nodes wires F i ≡ true
       fits-each none i = true_from_ne_false (fits_at op nodes wires F i) (λ here. elim (slice_get_cases plan i).1 as (λ _. ⊥) [
         | inl there ↦
-            let size = length-evaluated in
             let within = there.1 in
-            let d : Step × Dataset = (there.0, dataset_at (plan_evals plan types F) i) in
-            true≢false (sym (list_any_at misfits (zip plan (plan_evals plan types F)) i d (omega arith) (misfits_at i d within ∙ ap not here)) ∙ sym (is_some-position misfits (zip plan (plan_evals plan types F))) ∙ ap is_some none)
+            true≢false (sym (list_any_at misfits plan i there.0 within (misfits_at i there.0 within ∙ ap not here)) ∙ sym (is_some-position misfits plan) ∙ ap is_some none)
         | inr past ↦ true≢false (sym (fits_at-past op nodes wires F i (let size = length-wires in let beyond = past.0 in omega arith)) ∙ here)
       ])
 

@@ -9,18 +9,19 @@ use Rattle.dataflow.specs.Evaluation.{dataset_at, evals_after, step_fits, step_o
 use Rattle.dataflow.specs.Wiring.{RefersBefore}
 use Rattle.datasets.specs.Dataset.{Dataset, empty}
 use Rattle.op_parts.proofs.Ranges.{weights_in_range-all}
-use Rattle.operators.specs.InRange.{weights_in_range}
 use Rattle.plan_checker.proofs.Positions.{is_some-position}
 use Rattle.plan_model.proofs.Accepted.{Passes-fault_after}
-use Rattle.plan_model.specs.Acceptance.{fault_after, knows_source}
+use Rattle.plan_model.specs.Acceptance.{fault_after, knows_source, matches_kinds, step_has_kinds}
 use Rattle.plan_model.specs.Evaluation.{Family, eval_step, step_by_step_after}
-use Rattle.plan_model.specs.Fits.{inside_in_range}
+use Rattle.plan_model.specs.Fits.{step_fits as plan_step_fits}
+use Rattle.plan_model.specs.Inputs.{of_left, of_right}
 use Rattle.plan_model.specs.Limits.{is_expr, is_step, are_exprs}
 use Rattle.plan_model.specs.Sources.{has_name, place_of}
 use Rattle.plan_model.specs.declared.source_types.SourceType.{SourceType}
 use Rattle.plan_model.specs.declared.step.Step.{Step}
 use Rattle.plan_reader.specs.Steps.{is_built_step}
 use Rattle.record_text.specs.Names.{name_eq}
+use Rattle.record_text.specs.declared.kinds.Kind.{Kind}
 use Rattle.weighted_set.specs.Held.{AllInRange}
 use Rattle.flow_graph.specs.Steps.{fits_of, output_of, wire_of}
 
@@ -40,6 +41,11 @@ place_within has (t ∷ types) i e = (position-Some has (t ∷ types) i t e).0
 -- a step that isn't built
 unbuilt : {P : Type 0} → false ≡ true → P
 unbuilt b = absurd (true≢false (sym b))
+
+-- a step whose inputs are other steps has their kinds
+pub matches_kinds-of_steps : (types : List SourceType) (s : Step) (cs : List (List Kind)) → step_has_kinds types s cs ≡ true → matches_kinds s (of_left [] cs s) (of_right [] cs s) ≡ true
+matches_kinds-of_steps types (Step.Source name) cs typed = refl
+matches_kinds-of_steps types s cs typed = typed
 
 module _ (types : List SourceType) where
   -- its inputs are there
@@ -69,17 +75,17 @@ module _ (types : List SourceType) where
     step_output-eval_step (Step.Join left right left_key right_key) As built known = unbuilt built
     step_output-eval_step (Step.Group of key reduce) As built known = unbuilt built
 
-    -- its operator fits just where the step does; A is the step's dataset
-    pub step_fits-inside : (s : Step) (As : List Dataset) (A : Dataset) → is_built_step s ≡ true → ((place : ℕ) → AllInRange (dataset_at F place)) → step_output (output_of s) (wire_of types s) F As ≡ A
-        → step_fits (fits_of s) (wire_of types s) As ≡ (inside_in_range s As && weights_in_range A)
-    step_fits-inside (Step.Source name) As A built in_range is = sym (weights_in_range-all A (subst AllInRange is (in_range (unwrap_or (place_of name types) 0))))
-    step_fits-inside (Step.Filter of test) As A built in_range is = ap weights_in_range is
-    step_fits-inside (Step.Select of row) As A built in_range is = ap (λ B. inside_in_range (Step.Select of row) As && weights_in_range B) is
-    step_fits-inside (Step.Many of over items) As A built in_range is = unbuilt built
-    step_fits-inside (Step.Shave of runs) As A built in_range is = unbuilt built
-    step_fits-inside (Step.Set kind left right) As A built in_range is = unbuilt built
-    step_fits-inside (Step.Join left right left_key right_key) As A built in_range is = unbuilt built
-    step_fits-inside (Step.Group of key reduce) As A built in_range is = unbuilt built
+    -- its operator fits just where the step does
+    pub step_fits-plan : (s : Step) (As : List Dataset) → is_built_step s ≡ true → knows_source types s ≡ true → ((place : ℕ) → AllInRange (dataset_at F place)) → step_fits (fits_of s) (wire_of types s) As ≡ plan_step_fits types F As s
+    step_fits-plan (Step.Source name) As built known in_range =
+        sym (weights_in_range-all (eval_step types F (Step.Source name) As) (subst AllInRange (step_output-eval_step (Step.Source name) As built known) (in_range (unwrap_or (place_of name types) 0))))
+    step_fits-plan (Step.Filter of test) As built known in_range = refl
+    step_fits-plan (Step.Select of row) As built known in_range = refl
+    step_fits-plan (Step.Many of over items) As built known in_range = unbuilt built
+    step_fits-plan (Step.Shave of runs) As built known in_range = unbuilt built
+    step_fits-plan (Step.Set kind left right) As built known in_range = unbuilt built
+    step_fits-plan (Step.Join left right left_key right_key) As built known in_range = unbuilt built
+    step_fits-plan (Step.Group of key reduce) As built known in_range = unbuilt built
 
     -- ---- all steps
     pub evals_after-steps : (ss : List Step) (As : List Dataset) → list_all is_built_step ss ≡ true → AllByRecursion (λ s. knows_source types s ≡ true) ss

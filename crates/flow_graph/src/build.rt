@@ -1,8 +1,9 @@
 //! Graphs of plans, built step by step.
-ghost use Rattle.std.specs.Prelude.{◌≡◌, ℕ, IfErr, IfOk, IsTrue, List, Some, length, true};
+ghost use Rattle.std.specs.Prelude.{◌≡◌, [], ℕ, IfErr, IfOk, IsTrue, List, Some, length, true};
 ghost use Rattle.dataflow.specs.declared.passes.GraphFault.TheVariants as fault;
-ghost use Rattle.plan_model.specs.Acceptance.{Accepts, step_has_kinds};
+ghost use Rattle.plan_model.specs.Acceptance.{Accepts, matches_kinds};
 ghost use Rattle.plan_model.specs.Fits.{misfit};
+ghost use Rattle.plan_model.specs.Inputs.{of_left, of_right};
 ghost use Rattle.plan_model.specs.Limits.{is_step};
 ghost use Rattle.plan_model.specs.Types.{Keeps};
 ghost use Rattle.plan_model.specs.declared.source_types.SourceType.{SourceType};
@@ -44,7 +45,7 @@ fn wire_of(types: &SourceTypes, step: &Step) -> Wire
 fn node_of(alloc: Global, step: &Step, columns: &[Kinds]) -> Result<Node, Memory>
     requires step { IsTrue (is_step (length columns.now) step.now) }
     requires built { is_built_step step.now ≡ true }
-    requires kinds { step_has_kinds step.now columns.now ≡ true }
+    requires kinds { matches_kinds step.now (of_left [] columns.now step.now) (of_right [] columns.now step.now) ≡ true }
     ensures { IfOk result (λ node. (types : List SourceType) → IsFreshNode ⟦<Node as Operator>⟧ node types step.now columns.now) }
 {
     match step {

@@ -1,7 +1,7 @@
 -- The values that an operator passes through, and whether all of them are in range.
 use Rattle.std.specs.Prelude.{ℕ, Bool, ◌&&◌, ◌||◌, not, List, filter, flat_map, map, take}
 use Rattle.std.specs.List.{list_all}
-use Rattle.ratios.specs.Ratio.{Ratio, is_below, ratio_add, ratio_div, ratio_mul, ratio_sub, zero_ratio}
+use Rattle.ratios.specs.Ratio.{Ratio, is_below, ratio_add, ratio_mul, ratio_sub, zero_ratio}
 use Rattle.ratios.specs.Range.{all_in_range, in_range}
 use Rattle.ratios.specs.Sums.{ratio_sum, runs_in_range}
 use Rattle.record_text.specs.declared.atom.Atom.{Atom}
@@ -37,11 +37,9 @@ left_before fs w i = ratio_sub w (ratio_sum (take i fs))
 abbrev pub shave_in_range : List Ratio → Dataset → Bool
 shave_in_range fs A = list_all (λ p. not (is_below zero_ratio (left_before fs (at A p.0) p.1)) || in_range (left_before fs (at A p.0) p.1)) (cells fs A)
 
--- Join at a key: the running sums of both norms, their sum, and each B(y) divided by that sum
+-- Join at a key: the running sums of both norms, and their sum
 abbrev pub key_in_range : Dataset → Dataset → Bool
-key_in_range P Q =
-    runs_in_range (norm_terms P) && runs_in_range (norm_terms Q) && in_range (ratio_add (norm P) (norm Q))
-    && list_all (λ y. in_range (ratio_div (at Q y) (ratio_add (norm P) (norm Q)))) (rows Q)
+key_in_range P Q = runs_in_range (norm_terms P) && runs_in_range (norm_terms Q) && in_range (ratio_add (norm P) (norm Q))
 
 -- Join: that at each key with rows on both sides
 abbrev pub join_in_range : (Row → Row) → (Row → Row) → Dataset → Dataset → Bool

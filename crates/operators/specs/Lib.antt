@@ -1,4 +1,5 @@
 pub mod Weights
 pub mod Operators
 pub mod InRange
+pub mod Keys
 pub mod Laws

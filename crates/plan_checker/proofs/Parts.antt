@@ -6,14 +6,11 @@ use Rattle.std.proofs.lemmas.Bool.{and_parts, leb-true}
 use Rattle.std.proofs.lemmas.List.Folds.{list_all-append}
 use Rattle.record_text.specs.declared.kinds.Kind.{Kind}
 use Rattle.plan_model.specs.declared.expr.Expr.{Expr}
-use Rattle.plan_model.specs.declared.source_types.SourceType.{SourceType}
 use Rattle.plan_model.specs.declared.step.Item.{Item}
 use Rattle.plan_model.specs.declared.step.Step.{Step}
-use Rattle.plan_model.specs.Acceptance.{have_columns, is_narrow, item_exprs, knows_source, may_group, step_has_columns, step_has_kinds}
+use Rattle.plan_model.specs.Acceptance.{have_columns, item_exprs}
 use Rattle.plan_model.specs.Limits.{are_exprs, are_steps, is_guard, is_item, is_plan, is_step}
 use Rattle.plan_model.specs.Values.{has_columns, term_of}
-use Rattle.plan_model.proofs.Accepted.{passed}
-use Rattle.plan_checker.specs.Steps.{are_few, first_fault}
 use Rattle.record_text.proofs.Lists.{passes_at}
 use Rattle.plan_checker.proofs.Members.{list_all-flat_map}
 
@@ -62,23 +59,3 @@ step_of_plan p i s at plan =
 
 pub some_steps : (p : List Step) → is_plan p ≡ true → 0 < length p
 some_steps p plan = let few = (and_parts _ (are_steps 0 p) plan).0 in leb-true 1 (length p) ((and_parts (nat_le 1 (length p)) _ few).0)
-
--- ---- checks
-
--- what a step without a fault passes
-pub record IsFaultless (types : List SourceType) (s : Step) (cs : List (List Kind)) (counts : List ℕ) : Type 0 where
-  pub known_source : knows_source types s ≡ true
-  pub within_width : step_has_columns s cs ≡ true
-  pub narrow : is_narrow types s cs ≡ true
-  pub few_uses : are_few counts ≡ true
-
-pub faultless : (types : List SourceType) (s : Step) (cs : List (List Kind)) (bs : List Bool) (counts : List ℕ) →
-    first_fault types s cs bs counts ≡ None → IsFaultless types s cs counts
-faultless types s cs bs counts none =
-    let a = passed (knows_source types s) _ _ none in
-    let b = passed (step_has_columns s cs) _ _ a.1 in
-    let c = passed (step_has_kinds s cs) _ _ b.1 in
-    let d = passed (is_narrow types s cs) _ _ c.1 in
-    let e = passed (may_group s bs) _ _ d.1 in
-    let f = passed (are_few counts) _ _ e.1 in
-    record { known_source = a.0; within_width = b.0; narrow = d.0; few_uses = f.0 }

@@ -11,15 +11,16 @@ use Rattle.record_text.specs.declared.kinds.Kind.{Kind}
 use Rattle.plan_model.specs.declared.plan.What.{What}
 use Rattle.plan_model.specs.declared.source_types.SourceType.{SourceType}
 use Rattle.plan_model.specs.declared.step.Step.{Step}
-use Rattle.plan_model.specs.Acceptance.{Accepts, fault_after, fault_of_step, fault_or, plan_fault_of}
+use Rattle.plan_model.specs.Acceptance.{Accepts, are_few, fault_after, fault_of_step, fault_or, first_fault, plan_fault_of}
 use Rattle.plan_model.specs.Evaluation.{last_or, step_by_step}
 use Rattle.plan_model.specs.Limits.{is_plan, is_step}
 use Rattle.plan_model.specs.Types.{columns, columns_step, sign_step, signs}
+use Rattle.plan_model.proofs.Accepted.{Passes-first_fault}
 use Rattle.plan_model.proofs.StepByStep.{length-step_by_step_after, step_by_step_after-snoc}
 use Rattle.plan_checker.specs.Checked.{CheckedPlan, checked_of}
-use Rattle.plan_checker.specs.Steps.{are_few, first_fault, row_step, rows_of_steps}
+use Rattle.plan_checker.specs.Steps.{row_step, rows_of_steps}
 use Rattle.record_text.proofs.Lists.{front_more, rest_from}
-use Rattle.plan_checker.proofs.Parts.{faultless, some_steps, step_of_plan}
+use Rattle.plan_checker.proofs.Parts.{some_steps, step_of_plan}
 use Rattle.plan_checker.proofs.Rows.{first_fault-of_step, last_counts}
 
 -- the steps before a place have no fault, and these are their columns, their signs and their counts by source
@@ -114,6 +115,6 @@ module _ (types : List SourceType) (p : List Step) (place : ℕ) (cs : List (Lis
           columns = made_more (columns_step types) p place s cs cs' at reached.columns c;
           signs = made_more (sign_step types) p place s bs bs' at reached.signs b;
           counts = made_more (row_step types) p place s ns ns' at reached.counts (n ∙ ap (λ row. ns ++ row ∷ []) is);
-          few = ap (list_all are_few) n ∙ list_all-append are_few ns (counts ∷ []) ∙ and_from _ _ reached.few (and_from _ _ ((faultless types s cs bs counts none).few_uses) refl);
+          few = ap (list_all are_few) n ∙ list_all-append are_few ns (counts ∷ []) ∙ and_from _ _ reached.few (and_from _ _ ((Passes-first_fault types s cs bs counts none).few_uses) refl);
           rest = ap next (front_more p place s at) ∙ sym (ap (λ o. fault_or (length (take place p)) o (next (take place p ++ s ∷ []))) none_here) ∙ from_here;
         }

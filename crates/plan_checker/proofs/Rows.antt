@@ -1,18 +1,16 @@
 -- How often the steps of a plan use each source, source by source and step by step.
-use Rattle.std.specs.Prelude.{◌≡◌, ℕ, zero, suc, ◌+◌, ◌<◌, not, nat_le, if◌then◌else◌, List, [], ◌∷◌, ◌++◌, length, map, Some, None}
+use Rattle.std.specs.Prelude.{◌≡◌, ℕ, zero, suc, ◌+◌, ◌<◌, List, [], ◌∷◌, ◌++◌, length, map}
 use Rattle.std.specs.List.{range_with_len}
 use Rattle.std.proofs.Common.{refl, sym, ap, ap₂, ◌∙◌, arith}
 use Rattle.std.proofs.lemmas.List.{map-append}
 use Rattle.std.proofs.lemmas.List.FromFn.{get_or-map-range_with_len}
-use Rattle.std.proofs.lemmas.List.Folds.{list_all-map}
-use Rattle.plan_model.specs.declared.plan.What.{What}
 use Rattle.plan_model.specs.declared.source_types.SourceType.{SourceType}
 use Rattle.plan_model.specs.declared.step.Step.{Step}
-use Rattle.plan_model.specs.Acceptance.{fault_of_step, is_narrow, knows_source, max_uses, may_group, step_has_columns, step_has_kinds, within_uses}
+use Rattle.plan_model.specs.Acceptance.{fault_of_step, first_fault}
 use Rattle.plan_model.specs.Evaluation.{last_or, step_by_step_after}
 use Rattle.plan_model.specs.Types.{columns, signs}
-use Rattle.plan_model.specs.Uses.{count_at, uses, uses_of_steps, uses_step}
-use Rattle.plan_checker.specs.Steps.{are_few, counts_of, first_fault, row_step, rows_of_steps}
+use Rattle.plan_model.specs.Uses.{count_at, counts_of_step, uses, uses_of_steps, uses_step}
+use Rattle.plan_checker.specs.Steps.{counts_of, row_step, rows_of_steps}
 use Rattle.plan_checker.proofs.Members.{last_or-snoc}
 
 -- functions that agree below the end of a range have one list of values over it
@@ -37,23 +35,14 @@ module _ (types : List SourceType) where
 
   -- a step's counts are its uses of the sources
   row_step-uses : (p : List Step) (s : Step) →
-      row_step types s (rows_of_steps p types) ≡ map (λ source. uses_step types source s (uses_of_steps p types source)) (range_with_len 0 (length types))
+      row_step types s (rows_of_steps p types) ≡ counts_of_step types p s
   row_step-uses p s =
       map-range_with_len-same _ _ 0 (length types) (λ source inside. let below : source < length types = omega arith in ap (uses_step types source s) (counts_of-rows_after source below [] p))
-
-  are_few-uses : (p : List Step) (s : Step) → are_few (row_step types s (rows_of_steps p types)) ≡ within_uses types p s
-  are_few-uses p s =
-      ap are_few (row_step-uses p s) ∙ list_all-map (λ n. nat_le n max_uses) (λ source. uses_step types source s (uses_of_steps p types source)) (range_with_len 0 (length types))
 
   -- the fault that the checks find is the step's
   pub first_fault-of_step : (p : List Step) (s : Step) →
       first_fault types s (columns p types) (signs p types) (row_step types s (rows_of_steps p types)) ≡ fault_of_step types p s
-  first_fault-of_step p s =
-      let cs = columns p types in
-      ap
-      (λ few. if not (knows_source types s) then Some What.UnknownSource else if not (step_has_columns s cs) then Some What.Column else if not (step_has_kinds s cs) then Some What.Kind
-      else if not (is_narrow types s cs) then Some What.TooWide else if not (may_group s (signs p types)) then Some What.Negative else if not few then Some What.UsesOver else None)
-      (are_few-uses p s)
+  first_fault-of_step p s = ap (first_fault types s (columns p types) (signs p types)) (row_step-uses p s)
 
   last_counts_after : (made : List (List ℕ)) (s : Step) (ss : List Step) →
       map (λ source. last_or 0 (step_by_step_after (uses_step types source) (counts_of source made) (s ∷ ss))) (range_with_len 0 (length types))

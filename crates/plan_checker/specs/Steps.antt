@@ -1,16 +1,15 @@
 -- The checks of a step over what was made of the steps before.
-use Rattle.std.specs.Prelude.{ℕ, Bool, ◌&&◌, not, nat_le, nat_lt, if◌then◌else◌, List, length, map, Option, Some, None}
+use Rattle.std.specs.Prelude.{ℕ, Bool, ◌&&◌, nat_lt, List, length, map}
 use Rattle.std.specs.List.{list_all, range_with_len}
 use Rattle.record_text.specs.declared.kinds.Kind.{Kind}
 use Rattle.record_text.specs.declared.kinds.Kind.TheVariants.{Int}
 use Rattle.record_text.specs.KindLists.{kind_eq, kinds_eq}
 use Rattle.plan_model.specs.declared.expr.Expr.{Expr}
-use Rattle.plan_model.specs.declared.plan.What.{What}
 use Rattle.plan_model.specs.declared.source_types.SourceType.{SourceType}
 use Rattle.plan_model.specs.declared.step.Item.{Item}
 use Rattle.plan_model.specs.declared.step.Reducer.{Reducer}
 use Rattle.plan_model.specs.declared.step.Step.{Step}
-use Rattle.plan_model.specs.Acceptance.{have_kinds, is_narrow, knows_source, max_uses, may_group, reducer_columns, step_has_columns, step_has_kinds}
+use Rattle.plan_model.specs.Acceptance.{have_kinds, reducer_columns}
 use Rattle.plan_model.specs.Evaluation.{step_by_step}
 use Rattle.plan_model.specs.Types.{first_row, kind_over, kinds_over}
 use Rattle.plan_model.specs.Uses.{count_at, uses_step}
@@ -47,21 +46,3 @@ row_step types s made = map (λ source. uses_step types source s (counts_of sour
 -- how often each step uses each source
 abbrev pub rows_of_steps : List Step → List SourceType → List (List ℕ)
 rows_of_steps p types = step_by_step (row_step types) p
-
--- no count is above the most that a step may use a source
-abbrev pub are_few : List ℕ → Bool
-are_few counts = list_all (λ n. nat_le n max_uses) counts
-
--- ---- faults
-
--- the first fault of a step, in the order of the checks, from the columns and the signs of the steps before and
--- from its own counts by source
-abbrev pub first_fault : List SourceType → Step → List (List Kind) → List Bool → List ℕ → Option What
-first_fault types s cs bs counts =
-    if not (knows_source types s) then Some What.UnknownSource
-    else if not (step_has_columns s cs) then Some What.Column
-    else if not (step_has_kinds s cs) then Some What.Kind
-    else if not (is_narrow types s cs) then Some What.TooWide
-    else if not (may_group s bs) then Some What.Negative
-    else if not (are_few counts) then Some What.UsesOver
-    else None

@@ -1,14 +1,14 @@
 //! The checks of a step, over what was made of the steps before.
-ghost use Rattle.std.specs.Prelude.{◌≡◌, IsTrue, List, length, true};
-ghost use Rattle.plan_model.specs.Acceptance.{is_narrow, knows_source, may_group, reducer_has_kind, step_has_columns, step_has_kinds};
+ghost use Rattle.std.specs.Prelude.{◌≡◌, IsTrue, length, true};
+ghost use Rattle.plan_model.specs.Acceptance.{first_fault, is_narrow, knows_source, may_group, reducer_has_kind, step_has_columns, step_has_kinds};
 ghost use Rattle.plan_model.specs.Limits.{is_step};
-ghost use Rattle.plan_model.specs.declared.source_types.SourceType.{SourceType};
-ghost use Rattle.plan_checker.specs.Steps.{first_fault, reducer_has_columns};
+ghost use Rattle.plan_model.specs.Types.{columns_step};
+ghost use Rattle.plan_checker.specs.Steps.{reducer_has_columns};
 
 use crate::counts::Counts;
 use crate::exprs::{MAX_WIDTH, expr_has_columns, have_columns, have_kinds, is_int, kinds_over};
-use crate::items::{guards_are_ints, items_have_columns, rows_have_kinds};
-use crate::places::place_of;
+use crate::items::{first_item, guards_are_ints, items_have_columns, rows_have_kinds};
+use crate::places::{place_of, source_named};
 use plan_model::{Reducer, SourceTypes, Step, What};
 use record_text::{Kind, Kinds};
 
@@ -33,9 +33,9 @@ fn reducer_has_columns(cols: Kinds, reduce: Reducer) -> bool
 }
 
 // Every column that the step reads is below its input's width.
-fn step_has_columns(step: &Step, columns: &[Kinds]) -> bool
+fn step_has_columns(types: &SourceTypes, step: &Step, columns: &[Kinds]) -> bool
     requires { IsTrue (is_step (length columns.now) step.now) }
-    ensures { result ≡ step_has_columns step.now columns.now }
+    ensures { result ≡ step_has_columns types.now step.now columns.now }
 {
     match step {
         Step::Source { .. } | Step::Shave { .. } | Step::Set { .. } => true,
@@ -69,10 +69,10 @@ fn reducer_has_kind(cols: Kinds, reduce: Reducer) -> bool
 }
 
 // The expressions of the step have kinds, and those that they have to have.
-fn step_has_kinds(step: &Step, columns: &[Kinds]) -> bool
+fn step_has_kinds(types: &SourceTypes, step: &Step, columns: &[Kinds]) -> bool
     requires step { IsTrue (is_step (length columns.now) step.now) }
-    requires columns { step_has_columns step.now columns.now ≡ true }
-    ensures { result ≡ step_has_kinds step.now columns.now }
+    requires columns { step_has_columns types.now step.now columns.now ≡ true }
+    ensures { result ≡ step_has_kinds types.now step.now columns.now }
 {
     match step {
         Step::Source { .. } | Step::Shave { .. } => true,
@@ -100,23 +100,37 @@ fn step_has_kinds(step: &Step, columns: &[Kinds]) -> bool
     }
 }
 
-// A shave, a join and a group have at most 16 columns.
-fn is_narrow(step: &Step, columns: &[Kinds]) -> bool
+// How many columns the step has.
+fn width_of(types: &SourceTypes, step: &Step, columns: &[Kinds]) -> usize
     requires { IsTrue (is_step (length columns.now) step.now) }
-    ensures { (types : List SourceType) → result ≡ is_narrow types step.now columns.now }
+    ensures { result ≡ length (columns_step types.now step.now columns.now) }
 {
     match step {
-        Step::Shave { of, .. } => columns[*of].len() + 1 <= MAX_WIDTH,
-        Step::Join { left, right, .. } => columns[*left].len() + columns[*right].len() <= MAX_WIDTH,
-        Step::Group { key, .. } => key.len() + 1 <= MAX_WIDTH,
-        _ => true,
+        Step::Source { name } => match source_named(name, types) {
+            Some(source) => source.kinds.len(),
+            None => 0,
+        },
+        Step::Filter { of, .. } | Step::Set { left: of, .. } => columns[*of].len(),
+        Step::Select { row, .. } => row.len(),
+        Step::Many { items, .. } => first_item(items).row.len(),
+        Step::Shave { of, .. } => columns[*of].len() + 1,
+        Step::Join { left, right, .. } => columns[*left].len() + columns[*right].len(),
+        Step::Group { key, .. } => key.len() + 1,
     }
 }
 
+// The step has no more columns than a row may have.
+fn is_narrow(types: &SourceTypes, step: &Step, columns: &[Kinds]) -> bool
+    requires { IsTrue (is_step (length columns.now) step.now) }
+    ensures { result ≡ is_narrow types.now step.now columns.now }
+{
+    width_of(types, step, columns) <= MAX_WIDTH
+}
+
 // A group's input can't be negative.
-fn may_group(step: &Step, signs: &[bool]) -> bool
+fn may_group(types: &SourceTypes, step: &Step, signs: &[bool]) -> bool
     requires { IsTrue (is_step (length signs.now) step.now) }
-    ensures { result ≡ may_group step.now signs.now }
+    ensures { result ≡ may_group types.now step.now signs.now }
 {
     match step {
         Step::Group { of, .. } => !signs[*of],
@@ -139,16 +153,16 @@ pub(crate) fn first_fault(
     if !knows_source(types, step) {
         return Some(What::UnknownSource);
     }
-    if !step_has_columns(step, columns) {
+    if !step_has_columns(types, step, columns) {
         return Some(What::Column);
     }
-    if !step_has_kinds(step, columns) {
+    if !step_has_kinds(types, step, columns) {
         return Some(What::Kind);
     }
-    if !is_narrow(step, columns) {
+    if !is_narrow(types, step, columns) {
         return Some(What::TooWide);
     }
-    if !may_group(step, signs) {
+    if !may_group(types, step, signs) {
         return Some(What::Negative);
     }
     if !counts.are_few() {

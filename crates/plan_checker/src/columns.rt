@@ -60,7 +60,7 @@ fn reducer_kind(cols: Kinds, reduce: Reducer) -> Kind
 pub fn columns_of(types: &SourceTypes, step: &Step, columns: &[Kinds]) -> Kinds
     requires step { IsTrue (is_step (length columns.now) step.now) }
     requires known { knows_source types.now step.now ≡ true }
-    requires columns { step_has_columns step.now columns.now ≡ true }
+    requires columns { step_has_columns types.now step.now columns.now ≡ true }
     requires narrow { is_narrow types.now step.now columns.now ≡ true }
     ensures { result ≡ columns_step types.now step.now columns.now }
 {

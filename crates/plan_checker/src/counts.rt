@@ -1,10 +1,10 @@
 //! How often a step uses each source.
-ghost use Rattle.std.specs.Prelude.{◌≡◌, IfOk, IsTrue, List, length, nat_le, true};
+ghost use Rattle.std.specs.Prelude.{◌≡◌, IfOk, IsTrue, List, length, true};
 ghost use Rattle.std.specs.List.{list_all};
-ghost use Rattle.plan_model.specs.Acceptance.{max_uses};
+ghost use Rattle.plan_model.specs.Acceptance.{are_few};
 ghost use Rattle.plan_model.specs.Limits.{is_step};
 ghost use Rattle.plan_model.specs.Uses.{count_at, uses_step};
-ghost use Rattle.plan_checker.specs.Steps.{are_few, counts_of, row_step};
+ghost use Rattle.plan_checker.specs.Steps.{counts_of, row_step};
 
 use crate::places::place_of;
 use plan_model::{Memory, SourceTypes, Step};

@@ -1,5 +1,5 @@
 //! The items of a step over some columns.
-ghost use Rattle.std.specs.Prelude.{◌≡◌, ◌++◌, IsTrue, option_to_list, true};
+ghost use Rattle.std.specs.Prelude.{◌≡◌, ◌++◌, IsTrue, Some, option_to_list, slice_get, true};
 ghost use Rattle.std.specs.List.{list_all};
 ghost use Rattle.plan_model.specs.Acceptance.{are_ints, guards, have_columns, item_exprs};
 ghost use Rattle.plan_model.specs.Types.{first_row, kinds_over};
@@ -92,13 +92,20 @@ pub(crate) fn rows_have_kinds(cols: Kinds, items: &Items) -> bool
     true
 }
 
+// The first item.
+pub(crate) fn first_item(items: &Items) -> &Item
+    ensures { slice_get items.now 0 ≡ Some result.now }
+{
+    // Tells that there is an item.
+    let _len = items.len();
+    items.at(0)
+}
+
 // The kinds of the first item's row.
 pub(crate) fn first_kinds(cols: Kinds, items: &Items) -> Kinds
     requires items { IsTrue (list_all is_item items.now) }
     requires columns { have_columns cols (item_exprs items.now) ≡ true }
     ensures { result ≡ kinds_over cols (first_row items.now) }
 {
-    // Tells that there is an item.
-    let _len = items.len();
-    kinds_over(cols, &items.at(0).row)
+    kinds_over(cols, &first_item(items).row)
 }

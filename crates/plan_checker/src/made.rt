@@ -1,9 +1,9 @@
 //! What is made of the steps of a plan, one after the other.
 ghost use Rattle.std.specs.Prelude.{◌≡◌, ◌<◌, [], ◌∷◌, ◌++◌, IfOk, IsTrue, None, OnOk, length, true};
+ghost use Rattle.plan_model.specs.Acceptance.{first_fault};
 ghost use Rattle.plan_model.specs.Evaluation.{last_or};
 ghost use Rattle.plan_model.specs.Limits.{is_step};
 ghost use Rattle.plan_model.specs.Types.{columns_step, sign_step};
-ghost use Rattle.plan_checker.specs.Steps.{first_fault};
 
 use crate::checked::Checked;
 use crate::columns::{columns_of, sign_of};

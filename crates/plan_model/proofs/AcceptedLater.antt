@@ -1,19 +1,23 @@
 -- A plan that is accepted stays so when one source more is declared.
-use Rattle.std.proofs.Common.{◌≡◌, ◌<◌, ℕ, zero, suc, ◌+◌, List, [], ◌∷◌, ◌++◌, Bool, true, false, not, ◌&&◌, ◌||◌, refl, sym, ap, ap₂, ◌∙◌, arith, rules, true≢false, length, nat_le, nat_eq, length-append, Option, Some, None, if◌then◌else◌}
-use Rattle.std.specs.List.{AllByRecursion, list_all, list_any, position_or_len, range_with_len}
+use Rattle.std.proofs.Common.{◌≡◌, ◌<◌, ℕ, zero, suc, ◌+◌, List, [], ◌∷◌, ◌++◌, Bool, true, false, not, ◌&&◌, ◌||◌, refl, sym, ap, ap₂, ◌∙◌, arith, rules, true≢false, length, nat_le, nat_eq, length-append, map, sum, Option, Some, None, if◌then◌else◌}
+use Rattle.std.specs.List.{AllByRecursion, list_any, position_or_len, range_with_len}
+use Rattle.std.proofs.lemmas.List.{map-append}
 use Rattle.std.proofs.lemmas.List.Folds.{list_all-append, list_any-append}
+use Rattle.std.proofs.lemmas.List.Sums.{sum_by-cons}
 use Rattle.record_text.specs.Names.{name_eq}
 use Rattle.record_text.specs.declared.kinds.Kind.{Kind}
 use Rattle.plan_model.specs.declared.plan.What.{What}
 use Rattle.plan_model.specs.declared.source_types.SourceType.{SourceType}
 use Rattle.plan_model.specs.declared.step.Step.{Step}
-use Rattle.plan_model.specs.Acceptance.{Accepts, fault_after, fault_of_step, fault_or, is_narrow, knows_source, max_uses, may_group, step_has_columns, step_has_kinds, within_uses}
+use Rattle.plan_model.specs.Acceptance.{Accepts, are_few, fault_after, fault_of_step, fault_or, is_narrow, knows_source, max_uses, may_group, step_has_columns, step_has_kinds, takes_sign}
 use Rattle.plan_model.specs.Evaluation.{step_by_step_after}
+use Rattle.plan_model.specs.Inputs.{inputs}
+use Rattle.plan_model.specs.Sizes.{max_width}
 use Rattle.plan_model.specs.Sources.{has_name, place_of}
 use Rattle.plan_model.specs.Types.{columns, columns_step, sign_step, signs}
-use Rattle.plan_model.specs.Uses.{count_at, is_place, uses_of_steps, uses_step}
-use Rattle.plan_model.proofs.Accepted.{Passes, Passes-fault_after}
-use Rattle.plan_model.proofs.Extended.{AllByRecursion-snoc, columns-agree, place-known, signs-agree, step_by_step-agree, uses-agree}
+use Rattle.plan_model.specs.Uses.{count_at, counts_of_step, is_place, uses_of_steps, uses_step}
+use Rattle.plan_model.proofs.Accepted.{PassesAfter, Passes-fault_after}
+use Rattle.plan_model.proofs.Extended.{AllByRecursion-snoc, columns-agree, has_columns-agree, has_kinds-agree, left_sign-agree, place-known, signs-agree, step_by_step-agree, uses-agree}
 
 -- ---- small parts
 
@@ -21,9 +25,9 @@ check_passes : (check : Bool) (what : What) (next : Option What) → check ≡ t
 check_passes true what next e none = none
 check_passes false what next e none = absurd (true≢false (sym e))
 
-list_all-agree : {X : Type 0} (f g : X → Bool) → ((x : X) → f x ≡ g x) → (xs : List X) → list_all f xs ≡ list_all g xs
-list_all-agree f g same [] = refl
-list_all-agree f g same (x ∷ xs) = ap₂ (λ a b. a && b) (same x) (list_all-agree f g same xs)
+map-agree : {X Y : Type 0} (f g : X → Y) → ((x : X) → f x ≡ g x) → (xs : List X) → map f xs ≡ map g xs
+map-agree f g same [] = refl
+map-agree f g same (x ∷ xs) = ap₂ (λ y ys. y ∷ ys) (same x) (map-agree f g same xs)
 
 range_with_len-snoc : (a n : ℕ) → range_with_len a (suc n) ≡ range_with_len a n ++ (a + n) ∷ []
 range_with_len-snoc a zero = let e : a ≡ a + zero = omega arith in ap (λ k. k ∷ []) e
@@ -46,23 +50,7 @@ module _ (types : List SourceType) (t : SourceType) where
 
   knows-more : (s : Step) → Known s → knows_source more s ≡ true
   knows-more (Step.Source name) e = list_any-append (λ u. name_eq name u.name) types (t ∷ []) ∙ ap (λ b. b || list_any (λ u. name_eq name u.name) (t ∷ [])) e
-  knows-more (Step.Filter of test) e = refl
-  knows-more (Step.Select of row) e = refl
-  knows-more (Step.Many of over items) e = refl
-  knows-more (Step.Shave of runs) e = refl
-  knows-more (Step.Set kind left right) e = refl
-  knows-more (Step.Join left right left_key right_key) e = refl
-  knows-more (Step.Group of key reduce) e = refl
-
-  narrow-agree : (s : Step) (cs : List (List Kind)) → is_narrow more s cs ≡ is_narrow types s cs
-  narrow-agree (Step.Source name) cs = refl
-  narrow-agree (Step.Filter of test) cs = refl
-  narrow-agree (Step.Select of row) cs = refl
-  narrow-agree (Step.Many of over items) cs = refl
-  narrow-agree (Step.Shave of runs) cs = refl
-  narrow-agree (Step.Set kind left right) cs = refl
-  narrow-agree (Step.Join left right left_key right_key) cs = refl
-  narrow-agree (Step.Group of key reduce) cs = refl
+  knows-more s e = refl
 
   module _ (before : List Step) (known : AllByRecursion Known before) where
     pub columns-extended : columns before more ≡ columns before types
@@ -85,16 +73,14 @@ module _ (types : List SourceType) where
       let k = place-known (λ u. name_eq name u.name) [] types e in
       ap (is_place (length types)) k.1 ∙ nat_eq-below (position_or_len (λ u. name_eq name u.name) types) (length types) k.2
 
-  uses_none : (s : Step) (ns : List ℕ) → IsKnown s → AllZero ns → uses_step types (length types) s ns ≡ 0
+  sum_none : (is ns : List ℕ) → AllZero ns → sum (map (count_at ns) is) ≡ 0
   unfolding AllZero
+  sum_none [] ns zeros = refl
+  sum_none (i ∷ is) ns zeros = sum_by-cons (λ n. n) (count_at ns i) (map (count_at ns) is) ∙ ap₂ (λ a b. a + b) (zeros i) (sum_none is ns zeros)
+
+  uses_none : (s : Step) (ns : List ℕ) → IsKnown s → AllZero ns → uses_step types (length types) s ns ≡ 0
   uses_none (Step.Source name) ns e zeros = ap (λ b. if b then 1 else 0) (not_placed name e)
-  uses_none (Step.Filter of test) ns e zeros = zeros of
-  uses_none (Step.Select of row) ns e zeros = zeros of
-  uses_none (Step.Many of over items) ns e zeros = zeros of
-  uses_none (Step.Shave of runs) ns e zeros = zeros of
-  uses_none (Step.Set kind left right) ns e zeros = ap₂ (λ a b. a + b) (zeros left) (zeros right)
-  uses_none (Step.Join left right left_key right_key) ns e zeros = ap₂ (λ a b. a + b) (zeros left) (zeros right)
-  uses_none (Step.Group of key reduce) ns e zeros = zeros of
+  uses_none s ns e zeros = sum_none (inputs s) ns zeros
 
   AllZero-snoc : (ns : List ℕ) (n : ℕ) → AllZero ns → n ≡ 0 → AllZero (ns ++ n ∷ [])
   unfolding AllZero
@@ -125,32 +111,38 @@ module _ (types : List SourceType) (t : SourceType) where
   abbrev IsStep : Step → Type 0
   IsStep s = knows_source types s ≡ true
 
-  abbrev few : List SourceType → List Step → Step → ℕ → Bool
-  few ts before s source = nat_le (uses_step ts source s (uses_of_steps before ts source)) max_uses
-
-  within-extended : (before : List Step) (s : Step) → AllByRecursion IsStep before → IsStep s → within_uses types before s ≡ true → within_uses extended before s ≡ true
-  within-extended before s known e within =
+  -- a known step uses the sources as before, and the new one not at all
+  counts-extended : (before : List Step) (s : Step) → AllByRecursion IsStep before → IsStep s → counts_of_step extended before s ≡ counts_of_step types before s ++ 0 ∷ []
+  counts-extended before s known e =
       let n = length types in
       let count : length extended ≡ suc n = omega (arith, length-append types (t ∷ [])) in
-      let new : few types before s n ≡ true = ap (λ k. nat_le k max_uses) (none_of_new types before s known e) in
       let zero_n : 0 + n ≡ n = omega arith in
-      list_all-agree (few extended before s) (few types before s)
-      (λ source. ap (λ k. nat_le k max_uses) (uses-agree types t source s (uses_of_steps before extended source) e ∙ ap (uses_step types source s) (uses-extended types t before known source))) (range_with_len 0 (length extended))
-      ∙ ap (λ k. list_all (few types before s) (range_with_len 0 k)) count
-      ∙ ap (list_all (few types before s)) (range_with_len-snoc 0 n ∙ ap (λ k. range_with_len 0 n ++ k ∷ []) zero_n)
-      ∙ list_all-append (few types before s) (range_with_len 0 n) (n ∷ [])
-      ∙ ap₂ (λ a b. a && (b && true)) within new
+      let uses : ℕ → ℕ = λ source. uses_step types source s (uses_of_steps before types source) in
+      map-agree (λ source. uses_step extended source s (uses_of_steps before extended source)) uses
+      (λ source. uses-agree types t source s (uses_of_steps before extended source) e ∙ ap (uses_step types source s) (uses-extended types t before known source)) (range_with_len 0 (length extended))
+      ∙ ap (λ k. map uses (range_with_len 0 k)) count
+      ∙ ap (map uses) (range_with_len-snoc 0 n ∙ ap (λ k. range_with_len 0 n ++ k ∷ []) zero_n)
+      ∙ map-append uses (range_with_len 0 n) (n ∷ [])
+      ∙ ap (λ k. counts_of_step types before s ++ k ∷ []) (none_of_new types before s known e)
 
-  step-extended : (before : List Step) (s : Step) → AllByRecursion IsStep before → Passes types before s → fault_of_step extended before s ≡ None
+  few-extended : (before : List Step) (s : Step) → AllByRecursion IsStep before → IsStep s → are_few (counts_of_step types before s) ≡ true → are_few (counts_of_step extended before s) ≡ true
+  few-extended before s known e few =
+      ap are_few (counts-extended before s known e)
+      ∙ list_all-append (λ n. nat_le n max_uses) (counts_of_step types before s) (0 ∷ [])
+      ∙ ap (λ a. a && true) few
+
+  step-extended : (before : List Step) (s : Step) → AllByRecursion IsStep before → PassesAfter types before s → fault_of_step extended before s ≡ None
   step-extended before s known p =
+      let e = p.known_source in
       let cs = columns-extended types t before known in
       let bs = signs-extended types t before known in
-      check_passes (knows_source extended s) _ _ (knows-more types t s p.known_source)
-      (check_passes (step_has_columns s (columns before extended)) _ _ (ap (step_has_columns s) cs ∙ p.within_width)
-      (check_passes (step_has_kinds s (columns before extended)) _ _ (ap (step_has_kinds s) cs ∙ p.right_kinds)
-      (check_passes (is_narrow extended s (columns before extended)) _ _ (narrow-agree types t s (columns before extended) ∙ ap (is_narrow types s) cs ∙ p.narrow)
-      (check_passes (may_group s (signs before extended)) _ _ (ap (may_group s) bs ∙ p.not_negative)
-      (check_passes (within_uses extended before s) _ None (within-extended before s known p.known_source p.few_uses) refl)))))
+      let old = columns before types in
+      check_passes (knows_source extended s) _ _ (knows-more types t s e)
+      (check_passes (step_has_columns extended s (columns before extended)) _ _ (ap (step_has_columns extended s) cs ∙ has_columns-agree types t s old e ∙ p.within_width)
+      (check_passes (step_has_kinds extended s (columns before extended)) _ _ (ap (step_has_kinds extended s) cs ∙ has_kinds-agree types t s old e ∙ p.right_kinds)
+      (check_passes (is_narrow extended s (columns before extended)) _ _ (ap (is_narrow extended s) cs ∙ ap (λ cols. nat_le (length cols) max_width) (columns-agree types t s old e) ∙ p.narrow)
+      (check_passes (may_group extended s (signs before extended)) _ _ (ap (may_group extended s) bs ∙ ap (takes_sign s) (left_sign-agree types t s (signs before types) e) ∙ p.not_negative)
+      (check_passes (are_few (counts_of_step extended before s)) _ None (few-extended before s known e p.few_uses) refl)))))
 
   fault-extended : (before ss : List Step) → AllByRecursion IsStep before → fault_after types before ss ≡ None → fault_after extended before ss ≡ None
   fault-extended before [] known none = refl

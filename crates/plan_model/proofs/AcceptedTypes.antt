@@ -10,7 +10,7 @@ use Rattle.plan_model.specs.Acceptance.{fault_after}
 use Rattle.plan_model.specs.Evaluation.{Family, eval_at, eval_step, evals}
 use Rattle.plan_model.specs.Laws.{AcceptedIsTyped}
 use Rattle.plan_model.specs.Types.{Keeps, columns, columns_at, columns_step, may_be_negative, sign_step, signs}
-use Rattle.plan_model.proofs.Accepted.{Passes, Passes-fault_after}
+use Rattle.plan_model.proofs.Accepted.{PassesAfter, Passes-fault_after}
 use Rattle.plan_model.proofs.StepByStep.{slice_index_or-step_by_step}
 use Rattle.plan_model.proofs.TypedSteps.{IsTyped, IsTyped-empty, IsTyped-eval_step}
 
@@ -24,7 +24,7 @@ module _ (types : List SourceType) (F : Family) (keeps : Keeps types F) where
   IsTyped-either false c d f g A B h k = k
 
   -- a step more, that passes its checks
-  TypedAt-snoc : (p : List Step) (s : Step) → Passes types p s → ((i : ℕ) → TypedAt p i) → (i : ℕ) → TypedAt (p ++ s ∷ []) i
+  TypedAt-snoc : (p : List Step) (s : Step) → PassesAfter types p s → ((i : ℕ) → TypedAt p i) → (i : ℕ) → TypedAt (p ++ s ∷ []) i
   TypedAt-snoc p s passes h i =
       let new = IsTyped-eval_step (columns p types) (signs p types) (evals p types F) h types F s keeps passes.right_kinds passes.not_negative in
       rw (slice_index_or-step_by_step (columns_step types) p s [] i, slice_index_or-step_by_step (sign_step types) p s true i, slice_index_or-step_by_step (eval_step types F) p s empty i)

@@ -1,5 +1,5 @@
 -- A source that is declared later changes neither acceptance nor fit of a plan.
-use Rattle.std.proofs.Common.{◌≡◌, ◌<◌, ℕ, suc, ◌+◌, List, [], ◌∷◌, ◌++◌, Bool, true, false, not, cond, ◌||◌, refl, sym, ap, ◌∙◌, arith, true≢false, length, position, nat_lt, lt-ltb, length-append, Some, None, if◌then◌else◌, zip}
+use Rattle.std.proofs.Common.{◌≡◌, ◌<◌, ℕ, suc, ◌+◌, List, [], ◌∷◌, ◌++◌, Bool, true, false, not, cond, ◌||◌, refl, sym, ap, ap₂, ◌∙◌, arith, true≢false, length, position, nat_lt, lt-ltb, length-append, Some, None, if◌then◌else◌}
 use Rattle.std.specs.Prelude.{slice_get, option_map, option_and_then}
 use Rattle.std.specs.Option.{unwrap_or}
 use Rattle.std.specs.List.{AllByRecursion, list_any, position_or_len}
@@ -10,11 +10,11 @@ use Rattle.record_text.specs.Names.{name_eq}
 use Rattle.record_text.specs.declared.kinds.Kind.{Kind}
 use Rattle.plan_model.specs.declared.source_types.SourceType.{SourceType}
 use Rattle.plan_model.specs.declared.step.Step.{Step}
-use Rattle.plan_model.specs.Acceptance.{knows_source}
-use Rattle.plan_model.specs.Evaluation.{Family, dataset_at, eval_step, step_by_step_after}
-use Rattle.plan_model.specs.Fits.{misfit, step_fits}
+use Rattle.plan_model.specs.Acceptance.{knows_source, matches_kinds, reads_columns, step_has_columns, step_has_kinds}
+use Rattle.plan_model.specs.Evaluation.{Family, dataset_at, eval_step, evals, left_dataset, operator_of, right_dataset, step_by_step_after}
+use Rattle.plan_model.specs.Fits.{misfit, operator_fits, step_fits}
 use Rattle.plan_model.specs.Sources.{has_name, place_of}
-use Rattle.plan_model.specs.Types.{columns_step, sign_step, source_named}
+use Rattle.plan_model.specs.Types.{columns_step, left_columns, left_sign, output_columns, output_sign, right_columns, right_sign, sign_step, source_named}
 use Rattle.plan_model.specs.Uses.{is_place, uses_step}
 
 -- ---- places of names
@@ -77,56 +77,57 @@ module _ (types : List SourceType) (t : SourceType) where
       ∙ sym (slice_get-get_or types i t k.2)
       ∙ sym (ap (option_and_then (slice_get types)) k.1)
 
+  left_columns-agree : (s : Step) (cs : List (List Kind)) → Known s → left_columns more cs s ≡ left_columns types cs s
+  left_columns-agree (Step.Source name) cs e = ap (λ u. unwrap_or (option_map (λ t. t.kinds) u) []) (slice_get-known name e)
+  left_columns-agree s cs e = refl
+
   pub columns-agree : (s : Step) (cs : List (List Kind)) → Known s → columns_step more s cs ≡ columns_step types s cs
-  columns-agree (Step.Source name) cs e = ap (λ u. unwrap_or (option_map (λ t. t.kinds) u) []) (slice_get-known name e)
-  columns-agree (Step.Filter of test) cs e = refl
-  columns-agree (Step.Select of row) cs e = refl
-  columns-agree (Step.Many of over items) cs e = refl
-  columns-agree (Step.Shave of runs) cs e = refl
-  columns-agree (Step.Set kind left right) cs e = refl
-  columns-agree (Step.Join left right left_key right_key) cs e = refl
-  columns-agree (Step.Group of key reduce) cs e = refl
+  columns-agree s cs e = ap (λ left. output_columns s left (right_columns cs s)) (left_columns-agree s cs e)
+
+  pub has_columns-agree : (s : Step) (cs : List (List Kind)) → Known s → step_has_columns more s cs ≡ step_has_columns types s cs
+  has_columns-agree s cs e = ap (λ left. reads_columns s left (right_columns cs s)) (left_columns-agree s cs e)
+
+  pub has_kinds-agree : (s : Step) (cs : List (List Kind)) → Known s → step_has_kinds more s cs ≡ step_has_kinds types s cs
+  has_kinds-agree s cs e = ap (λ left. matches_kinds s left (right_columns cs s)) (left_columns-agree s cs e)
+
+  pub left_sign-agree : (s : Step) (bs : List Bool) → Known s → left_sign more bs s ≡ left_sign types bs s
+  left_sign-agree (Step.Source name) bs e = ap (λ u. unwrap_or (option_map (λ t. t.signed) u) true) (slice_get-known name e)
+  left_sign-agree s bs e = refl
 
   pub signs-agree : (s : Step) (bs : List Bool) → Known s → sign_step more s bs ≡ sign_step types s bs
-  signs-agree (Step.Source name) bs e = ap (λ u. unwrap_or (option_map (λ t. t.signed) u) true) (slice_get-known name e)
-  signs-agree (Step.Filter of test) bs e = refl
-  signs-agree (Step.Select of row) bs e = refl
-  signs-agree (Step.Many of over items) bs e = refl
-  signs-agree (Step.Shave of runs) bs e = refl
-  signs-agree (Step.Set kind left right) bs e = refl
-  signs-agree (Step.Join left right left_key right_key) bs e = refl
-  signs-agree (Step.Group of key reduce) bs e = refl
+  signs-agree s bs e = ap (λ left. output_sign s left (right_sign bs s)) (left_sign-agree s bs e)
 
   pub uses-agree : (source : ℕ) (s : Step) (ns : List ℕ) → Known s → uses_step more source s ns ≡ uses_step types source s ns
   uses-agree source (Step.Source name) ns e = ap (λ place. if is_place source place then 1 else 0) (place_of-known name e)
-  uses-agree source (Step.Filter of test) ns e = refl
-  uses-agree source (Step.Select of row) ns e = refl
-  uses-agree source (Step.Many of over items) ns e = refl
-  uses-agree source (Step.Shave of runs) ns e = refl
-  uses-agree source (Step.Set kind left right) ns e = refl
-  uses-agree source (Step.Join left right left_key right_key) ns e = refl
-  uses-agree source (Step.Group of key reduce) ns e = refl
+  uses-agree source s ns e = refl
 
-  evals-agree : (F : Family) (A : Dataset) → length F ≡ length types → (s : Step) (made : List Dataset) → Known s
-      → eval_step more (F ++ A ∷ []) s made ≡ eval_step types F s made
-  evals-agree F A same (Step.Source name) made e =
+  left_dataset-agree : (F : Family) (A : Dataset) → length F ≡ length types → (s : Step) (made : List Dataset) → Known s → left_dataset more (F ++ A ∷ []) made s ≡ left_dataset types F made s
+  left_dataset-agree F A same (Step.Source name) made e =
       let k = place-known (λ u. name_eq name u.name) (t ∷ []) types e in
       let i = position_or_len (λ u. name_eq name u.name) types in
       let lt : i < length F = omega (arith, k.2, same) in
       ap (λ place. unwrap_or (option_map (dataset_at (F ++ A ∷ [])) place) empty) k.0
       ∙ get_or_append_left F (A ∷ []) empty i lt
       ∙ sym (ap (λ place. unwrap_or (option_map (dataset_at F) place) empty) k.1)
-  evals-agree F A same (Step.Filter of test) made e = refl
-  evals-agree F A same (Step.Select of row) made e = refl
-  evals-agree F A same (Step.Many of over items) made e = refl
-  evals-agree F A same (Step.Shave of runs) made e = refl
-  evals-agree F A same (Step.Set kind left right) made e = refl
-  evals-agree F A same (Step.Join left right left_key right_key) made e = refl
-  evals-agree F A same (Step.Group of key reduce) made e = refl
+  left_dataset-agree F A same s made e = refl
+
+  evals-agree : (F : Family) (A : Dataset) → length F ≡ length types → (s : Step) (made : List Dataset) → Known s → eval_step more (F ++ A ∷ []) s made ≡ eval_step types F s made
+  evals-agree F A same s made e = ap (λ left. operator_of s left (right_dataset made s)) (left_dataset-agree F A same s made e)
+
+  fits-agree : (F : Family) (A : Dataset) → length F ≡ length types → (made : List Dataset) (s : Step) → Known s → step_fits more (F ++ A ∷ []) made s ≡ step_fits types F made s
+  fits-agree F A same made s e = ap (λ left. operator_fits s left (right_dataset made s)) (left_dataset-agree F A same s made e)
+
+  -- the first of steps that two tests find
+  position-agree : (p q : Step → Bool) → ((s : Step) → Known s → p s ≡ q s) → (ss : List Step) → AllByRecursion Known ss → position_or_len p ss ≡ position_or_len q ss
+  position-agree p q agree [] known = refl
+  position-agree p q agree (s ∷ ss) known = ap₂ (λ b n. cond (not b) (1 + n) 0) (agree s known.0) (position-agree p q agree ss known.1)
 
   -- a plan of known sources fits as before
   pub misfit-extended : (F : Family) (A : Dataset) → length F ≡ length types → (p : List Step) → AllByRecursion Known p
       → misfit p more (F ++ A ∷ []) ≡ misfit p types F
   misfit-extended F A same p known =
-      ap (λ es. position (λ (s : Step × Dataset). not (step_fits es s)) (zip p es))
+      let As = evals p types F in
+      ap (λ es. position (λ s. not (step_fits more (F ++ A ∷ []) es s)) p)
       (step_by_step-agree (eval_step more (F ++ A ∷ [])) (eval_step types F) Known (evals-agree F A same) [] p known)
+      ∙ ap (λ n. cond (nat_lt n (length p)) (Some n) None)
+      (position-agree (λ s. not (step_fits more (F ++ A ∷ []) As s)) (λ s. not (step_fits types F As s)) (λ s e. ap not (fits-agree F A same As s e)) p known)

@@ -1,5 +1,5 @@
 -- The rows and the signs of a step's dataset, from those of the datasets of the steps before.
-use Rattle.std.specs.Prelude.{◌≡◌, ◌≢◌, ◌<◌, ℕ, zero, suc, pos, Bool, true, false, ◌&&◌, ◌||◌, not, List, [], ◌∷◌, ◌++◌, length, slice_get, Option, Some, None, option_and_then, option_map}
+use Rattle.std.specs.Prelude.{◌≡◌, ◌≢◌, ◌<◌, ℕ, zero, suc, pos, Bool, true, false, ◌&&◌, ◌||◌, not, List, [], ◌∷◌, ◌++◌, length, map, slice_get, slice_index_or, Option, Some, None, option_and_then, option_map}
 use Rattle.std.specs.List.{AllByRecursion, list_all}
 use Rattle.std.specs.Option.{unwrap_or}
 use Rattle.std.proofs.Common.{sym, ap, ap₂, subst, ◌∙◌, inl, inr, true≢false}
@@ -25,10 +25,11 @@ use Rattle.plan_model.specs.declared.step.Reducer.{Reducer}
 use Rattle.plan_model.specs.declared.step.SetKind.{SetKind}
 use Rattle.plan_model.specs.declared.step.Step.{Step}
 use Rattle.plan_model.specs.declared.source_types.SourceType.{SourceType}
-use Rattle.plan_model.specs.Acceptance.{are_ints, guards, have_kinds, may_group, step_has_kinds}
-use Rattle.plan_model.specs.Evaluation.{Family, dataset_at, eval_step, giving, passes, pieces, reduced_to, row_of, set_weight}
+use Rattle.plan_model.specs.Acceptance.{are_ints, guards, have_kinds, matches_kinds, may_group, step_has_kinds, takes_sign}
+use Rattle.plan_model.specs.Evaluation.{Family, dataset_at, eval_step, giving, left_dataset, operator_of, passes, pieces, reduced_to, row_of, set_weight}
+use Rattle.plan_model.specs.Inputs.{inputs}
 use Rattle.plan_model.specs.Sources.{place_of}
-use Rattle.plan_model.specs.Types.{HasColumns, Keeps, columns_at, columns_step, first_row, flag_at, kinds_over, reducer_kind, set_sign, sign_step}
+use Rattle.plan_model.specs.Types.{HasColumns, Keeps, columns_at, columns_step, first_row, flag_at, kinds_over, left_columns, left_sign, output_columns, output_sign, reducer_kind, set_sign, sign_step}
 use Rattle.plan_model.proofs.Reducers.{kind-reduced_to}
 use Rattle.plan_model.proofs.TypedValues.{kinds-row_of}
 
@@ -83,94 +84,94 @@ NoneNegative-set SetKind.Intersect a b A B e h k = let parts = or_parts a b e in
 NoneNegative-set SetKind.Concat a b A B e h k = let parts = or_parts a b e in NoneNegative-concat A B (h parts.0) (k parts.1)
 NoneNegative-set SetKind.Except a b A B e h k = absurd (true≢false e)
 
+-- ---- operators
+
+-- the rows of the left and of the right input have their columns and their signs
+module _ (l r : List Kind) (a b : Bool) (A B : Dataset) (left : IsTyped l a A) (right : IsTyped r b B) where
+  -- the row has the columns of the left input
+  abbrev OnLeft : Row → Type 0
+  OnLeft x = kinds_of x ≡ l
+
+  kinds_row_of : (es : List Expr) (x : Row) → OnLeft x → kinds_of (row_of es x) ≡ kinds_over l es
+  kinds_row_of es x e = kinds-row_of es x ∙ ap (λ ks. kinds_over ks es) e
+
+  IsTyped-filtered : (test : Row → Bool) → IsTyped l a (filtered test A)
+  IsTyped-filtered test = record { rows = AllRows-filtered OnLeft test A left.rows; sign = λ e. NoneNegative-filtered test A (left.sign e) }
+
+  IsTyped-selected : (row : List Expr) → IsTyped (kinds_over l row) a (selected (row_of row) A)
+  IsTyped-selected row = record {
+    rows = AllRows-selected OnLeft (λ z. kinds_of z ≡ kinds_over l row) (row_of row) A (kinds_row_of row) left.rows;
+    sign = λ e. NoneNegative-selected (row_of row) A (left.sign e);
+  }
+
+  IsTyped-spread : (of over : ℕ) (items : List Item) → matches_kinds (Step.Many of over items) l r ≡ true → IsTyped (kinds_over l (first_row items)) a (spread over (giving items) A)
+  IsTyped-spread of over items typed =
+      let first = kinds_over l (first_row items) in
+      let same = (and_parts (are_ints l (guards items)) _ typed).1 in
+      let given : (y : Row) → OnLeft y → AllByRecursion (λ g. kinds_of (g.row y) ≡ first) (applying (giving items) y) =
+      λ y e. AllByRecursion-filter (λ g. kinds_of (g.row y) ≡ first) (λ g. g.applies y) (giving items) (kinds-giving l first y items e same) in
+      record {
+        rows = AllRows-spread OnLeft (λ z. kinds_of z ≡ first) over (giving items) A given left.rows;
+        sign = λ e. NoneNegative-spread over (giving items) A (left.sign e);
+      }
+
+  IsTyped-shaved : (fs : List Ratio) → IsTyped (l ++ Int ∷ []) false (shaved fs A)
+  IsTyped-shaved fs =
+      let numbered_kinds : (x : Row) (i : ℕ) → i < length fs → OnLeft x → kinds_of (numbered (x, i)) ≡ l ++ Int ∷ [] =
+      λ x i inside e. map-append kind_of x (atom.Int (pos i) ∷ []) ∙ ap (λ ks. ks ++ Int ∷ []) e in
+      record { rows = AllRows-shaved OnLeft (λ z. kinds_of z ≡ l ++ Int ∷ []) fs A numbered_kinds left.rows; sign = λ e. NoneNegative-shaved fs A }
+
+  IsTyped-set : (kind : SetKind) → kinds_eq l r ≡ true → IsTyped l (set_sign kind a b) (pointwise (set_weight kind) A B)
+  IsTyped-set kind typed =
+      let same = kinds_same l r typed in
+      record {
+        rows = AllRows-pointwise OnLeft (set_weight kind) A B left.rows (subst (λ cols. HasColumns cols B) (sym same) right.rows);
+        sign = λ e. NoneNegative-set kind a b A B e left.sign right.sign;
+      }
+
+  IsTyped-joined : (f g : Row → Row) → IsTyped (l ++ r) (a || b) (joined f g A B)
+  IsTyped-joined f g =
+      let both : (x y : Row) → OnLeft x → kinds_of y ≡ r → kinds_of (x ++ y) ≡ l ++ r = λ x y p q. map-append kind_of x y ∙ ap₂ (λ ks ls. ks ++ ls) p q in
+      record {
+        rows = AllRows-joined OnLeft (λ y. kinds_of y ≡ r) (λ z. kinds_of z ≡ l ++ r) f g A B both left.rows right.rows;
+        sign = λ e. let parts = or_parts a b e in NoneNegative-joined f g A B (left.sign parts.0) (right.sign parts.1);
+      }
+
+  IsTyped-grouped : (key : List Expr) (reduce : Reducer) → not a ≡ true → IsTyped (kinds_over l key ++ reducer_kind l reduce ∷ []) false (grouped (row_of key) (reduced_to reduce) A)
+  IsTyped-grouped key reduce sign =
+      let ks = kinds_over l key in
+      let out : (k : Row) (xs : List Row) → kinds_of k ≡ ks → xs ≢ [] → AllByRecursion OnLeft xs → kinds_of (k ++ reduced_to reduce xs ∷ []) ≡ ks ++ reducer_kind l reduce ∷ [] =
+      λ k xs e some each. map-append kind_of k (reduced_to reduce xs ∷ []) ∙ ap₂ (λ ls j. ls ++ j ∷ []) e (kind-reduced_to l reduce xs some each) in
+      record {
+        rows = AllRows-grouped OnLeft (λ k. kinds_of k ≡ ks) (λ z. kinds_of z ≡ ks ++ reducer_kind l reduce ∷ []) (row_of key) (reduced_to reduce) A (kinds_row_of key) out left.rows;
+        sign = λ e. NoneNegative-grouped (row_of key) (reduced_to reduce) A (left.sign (not-true a sign));
+      }
+
+  -- an operator whose kinds and whose input's sign are as they have to be
+  IsTyped-operator_of : (s : Step) → matches_kinds s l r ≡ true → takes_sign s a ≡ true → IsTyped (output_columns s l r) (output_sign s a b) (operator_of s A B)
+  IsTyped-operator_of (Step.Source name) typed sign = left
+  IsTyped-operator_of (Step.Filter of test) typed sign = IsTyped-filtered (passes test)
+  IsTyped-operator_of (Step.Select of row) typed sign = IsTyped-selected row
+  IsTyped-operator_of (Step.Many of over items) typed sign = IsTyped-spread of over items typed
+  IsTyped-operator_of (Step.Shave of runs) typed sign = IsTyped-shaved (pieces runs)
+  IsTyped-operator_of (Step.Set kind i j) typed sign = IsTyped-set kind typed
+  IsTyped-operator_of (Step.Join i j left_key right_key) typed sign = IsTyped-joined (row_of left_key) (row_of right_key)
+  IsTyped-operator_of (Step.Group of key reduce) typed sign = IsTyped-grouped key reduce sign
+
 -- ---- steps
 
 module _ (cs : List (List Kind)) (bs : List Bool) (As : List Dataset) (h : (i : ℕ) → IsTyped (columns_at cs i) (flag_at bs i) (dataset_at As i)) where
-  -- the rows of the dataset at a place have the columns there
-  abbrev HasKinds : ℕ → Row → Type 0
-  HasKinds i x = kinds_of x ≡ columns_at cs i
+  -- each input of a step has the columns and the sign of the step that it names
+  IsTyped-input : (is : List ℕ) (n : ℕ) → IsTyped (slice_index_or (map (columns_at cs) is) n []) (slice_index_or (map (flag_at bs) is) n true) (slice_index_or (map (dataset_at As) is) n empty)
+  IsTyped-input [] n = IsTyped-empty [] true
+  IsTyped-input (i ∷ is) zero = h i
+  IsTyped-input (i ∷ is) (suc n) = IsTyped-input is n
 
-  kinds_row_of : (es : List Expr) (i : ℕ) (x : Row) → HasKinds i x → kinds_of (row_of es x) ≡ kinds_over (columns_at cs i) es
-  kinds_row_of es i x e = kinds-row_of es x ∙ ap (λ ks. kinds_over ks es) e
+  IsTyped-left : (types : List SourceType) (F : Family) (s : Step) → Keeps types F → IsTyped (left_columns types cs s) (left_sign types bs s) (left_dataset types F As s)
+  IsTyped-left types F (Step.Source name) keeps = IsTyped-source types F (place_of name types) keeps
+  IsTyped-left types F s keeps = IsTyped-input (inputs s) 0
 
-  IsTyped-filtered : (of : ℕ) (test : Row → Bool) → IsTyped (columns_at cs of) (flag_at bs of) (filtered test (dataset_at As of))
-  IsTyped-filtered of test =
-      let A = dataset_at As of in
-      record { rows = AllRows-filtered (HasKinds of) test A (h of).rows; sign = λ e. NoneNegative-filtered test A ((h of).sign e) }
-
-  IsTyped-selected : (of : ℕ) (row : List Expr) → IsTyped (kinds_over (columns_at cs of) row) (flag_at bs of) (selected (row_of row) (dataset_at As of))
-  IsTyped-selected of row =
-      let A = dataset_at As of in
-      record {
-        rows = AllRows-selected (HasKinds of) (λ z. kinds_of z ≡ kinds_over (columns_at cs of) row) (row_of row) A (kinds_row_of row of) (h of).rows;
-        sign = λ e. NoneNegative-selected (row_of row) A ((h of).sign e);
-      }
-
-  IsTyped-spread : (of over : ℕ) (items : List Item) → step_has_kinds (Step.Many of over items) cs ≡ true →
-      IsTyped (kinds_over (columns_at cs of) (first_row items)) (flag_at bs of) (spread over (giving items) (dataset_at As of))
-  IsTyped-spread of over items typed =
-      let A = dataset_at As of in
-      let cols = columns_at cs of in
-      let first = kinds_over cols (first_row items) in
-      let same = (and_parts (are_ints cols (guards items)) _ typed).1 in
-      let given : (y : Row) → HasKinds of y → AllByRecursion (λ g. kinds_of (g.row y) ≡ first) (applying (giving items) y) =
-      λ y e. AllByRecursion-filter (λ g. kinds_of (g.row y) ≡ first) (λ g. g.applies y) (giving items) (kinds-giving cols first y items e same) in
-      record {
-        rows = AllRows-spread (HasKinds of) (λ z. kinds_of z ≡ first) over (giving items) A given (h of).rows;
-        sign = λ e. NoneNegative-spread over (giving items) A ((h of).sign e);
-      }
-
-  IsTyped-shaved : (of : ℕ) (fs : List Ratio) → IsTyped (columns_at cs of ++ Int ∷ []) false (shaved fs (dataset_at As of))
-  IsTyped-shaved of fs =
-      let A = dataset_at As of in
-      let numbered_kinds : (x : Row) (i : ℕ) → i < length fs → HasKinds of x → kinds_of (numbered (x, i)) ≡ columns_at cs of ++ Int ∷ [] =
-      λ x i inside e. map-append kind_of x (atom.Int (pos i) ∷ []) ∙ ap (λ ks. ks ++ Int ∷ []) e in
-      record { rows = AllRows-shaved (HasKinds of) (λ z. kinds_of z ≡ columns_at cs of ++ Int ∷ []) fs A numbered_kinds (h of).rows; sign = λ e. NoneNegative-shaved fs A }
-
-  IsTyped-set : (kind : SetKind) (left right : ℕ) → kinds_eq (columns_at cs left) (columns_at cs right) ≡ true →
-      IsTyped (columns_at cs left) (set_sign kind (flag_at bs left) (flag_at bs right)) (pointwise (set_weight kind) (dataset_at As left) (dataset_at As right))
-  IsTyped-set kind left right typed =
-      let A = dataset_at As left in
-      let B = dataset_at As right in
-      let same = kinds_same (columns_at cs left) (columns_at cs right) typed in
-      record {
-        rows = AllRows-pointwise (HasKinds left) (set_weight kind) A B (h left).rows (subst (λ cols. HasColumns cols B) (sym same) (h right).rows);
-        sign = λ e. NoneNegative-set kind (flag_at bs left) (flag_at bs right) A B e (h left).sign (h right).sign;
-      }
-
-  IsTyped-joined : (left right : ℕ) (f g : Row → Row) →
-      IsTyped (columns_at cs left ++ columns_at cs right) (flag_at bs left || flag_at bs right) (joined f g (dataset_at As left) (dataset_at As right))
-  IsTyped-joined left right f g =
-      let A = dataset_at As left in
-      let B = dataset_at As right in
-      let both : (x y : Row) → HasKinds left x → HasKinds right y → kinds_of (x ++ y) ≡ columns_at cs left ++ columns_at cs right =
-      λ x y p q. map-append kind_of x y ∙ ap₂ (λ ks ls. ks ++ ls) p q in
-      record {
-        rows = AllRows-joined (HasKinds left) (HasKinds right) (λ z. kinds_of z ≡ columns_at cs left ++ columns_at cs right) f g A B both (h left).rows (h right).rows;
-        sign = λ e. let parts = or_parts (flag_at bs left) (flag_at bs right) e in NoneNegative-joined f g A B ((h left).sign parts.0) ((h right).sign parts.1);
-      }
-
-  IsTyped-grouped : (of : ℕ) (key : List Expr) (reduce : Reducer) → not (flag_at bs of) ≡ true →
-      IsTyped (kinds_over (columns_at cs of) key ++ reducer_kind (columns_at cs of) reduce ∷ []) false (grouped (row_of key) (reduced_to reduce) (dataset_at As of))
-  IsTyped-grouped of key reduce sign =
-      let A = dataset_at As of in
-      let cols = columns_at cs of in
-      let ks = kinds_over cols key in
-      let out : (k : Row) (xs : List Row) → kinds_of k ≡ ks → xs ≢ [] → AllByRecursion (HasKinds of) xs → kinds_of (k ++ reduced_to reduce xs ∷ []) ≡ ks ++ reducer_kind cols reduce ∷ [] =
-      λ k xs e some each. map-append kind_of k (reduced_to reduce xs ∷ []) ∙ ap₂ (λ ls j. ls ++ j ∷ []) e (kind-reduced_to cols reduce xs some each) in
-      record {
-        rows = AllRows-grouped (HasKinds of) (λ k. kinds_of k ≡ ks) (λ z. kinds_of z ≡ ks ++ reducer_kind cols reduce ∷ []) (row_of key) (reduced_to reduce) A (kinds_row_of key of) out (h of).rows;
-        sign = λ e. NoneNegative-grouped (row_of key) (reduced_to reduce) A ((h of).sign (not-true (flag_at bs of) sign));
-      }
-
-  -- a step whose kinds and whose input's sign are as they have to be
-  pub IsTyped-eval_step : (types : List SourceType) (F : Family) (s : Step) → Keeps types F → step_has_kinds s cs ≡ true → may_group s bs ≡ true →
+  -- a step that passes its checks
+  pub IsTyped-eval_step : (types : List SourceType) (F : Family) (s : Step) → Keeps types F → step_has_kinds types s cs ≡ true → may_group types s bs ≡ true →
       IsTyped (columns_step types s cs) (sign_step types s bs) (eval_step types F s As)
-  IsTyped-eval_step types F (Step.Source name) keeps typed sign = IsTyped-source types F (place_of name types) keeps
-  IsTyped-eval_step types F (Step.Filter of test) keeps typed sign = IsTyped-filtered of (passes test)
-  IsTyped-eval_step types F (Step.Select of row) keeps typed sign = IsTyped-selected of row
-  IsTyped-eval_step types F (Step.Many of over items) keeps typed sign = IsTyped-spread of over items typed
-  IsTyped-eval_step types F (Step.Shave of runs) keeps typed sign = IsTyped-shaved of (pieces runs)
-  IsTyped-eval_step types F (Step.Set kind left right) keeps typed sign = IsTyped-set kind left right typed
-  IsTyped-eval_step types F (Step.Join left right left_key right_key) keeps typed sign = IsTyped-joined left right (row_of left_key) (row_of right_key)
-  IsTyped-eval_step types F (Step.Group of key reduce) keeps typed sign = IsTyped-grouped of key reduce sign
+  IsTyped-eval_step types F s keeps typed sign = IsTyped-operator_of _ _ _ _ _ _ (IsTyped-left types F s keeps) (IsTyped-input (inputs s) 1) s typed sign

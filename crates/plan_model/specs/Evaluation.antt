@@ -18,6 +18,7 @@ use Rattle.plan_model.specs.declared.step.Run.{Run}
 use Rattle.plan_model.specs.declared.step.SetKind.{SetKind}
 use Rattle.plan_model.specs.declared.step.Step.{Step}
 use Rattle.plan_model.specs.declared.source_types.SourceType.{SourceType}
+use Rattle.plan_model.specs.Inputs.{of_left, of_right}
 use Rattle.plan_model.specs.Sources.{place_of}
 use Rattle.plan_model.specs.Values.{term_of, value_if}
 
@@ -103,16 +104,34 @@ step_by_step_after f made (s ∷ ss) = step_by_step_after f (made ++ f s made �
 abbrev pub step_by_step : {X : Type 0} → (Step → List X → X) → List Step → List X
 step_by_step f steps = step_by_step_after f [] steps
 
--- the dataset of a step: the family's at a source step, else the operator on those of the earlier steps
+-- what the operator of a step makes of its left and its right input; a source's rows stay as they are, and an
+-- operator of one input doesn't look at the right
+abbrev pub operator_of : Step → Dataset → Dataset → Dataset
+operator_of (Step.Source name) A B = A
+operator_of (Step.Filter of test) A B = filtered (passes test) A
+operator_of (Step.Select of row) A B = selected (row_of row) A
+operator_of (Step.Many of over items) A B = spread over (giving items) A
+operator_of (Step.Shave of runs) A B = shaved (pieces runs) A
+operator_of (Step.Set kind left right) A B = pointwise (set_weight kind) A B
+operator_of (Step.Join left right left_key right_key) A B = joined (row_of left_key) (row_of right_key) A B
+operator_of (Step.Group of key reduce) A B = grouped (row_of key) (reduced_to reduce) A
+
+-- the dataset of the source of a name, empty where there is none
+abbrev pub source_dataset : List SourceType → Family → List ℕ → Dataset
+source_dataset types F name = unwrap_or (option_map (dataset_at F) (place_of name types)) empty
+
+-- the left input: a source's dataset at its step, else that of the step named first; As are those of the steps
+abbrev pub left_dataset : List SourceType → Family → List Dataset → Step → Dataset
+left_dataset types F As (Step.Source name) = source_dataset types F name
+left_dataset types F As s = of_left empty As s
+
+-- the right input, empty where there is none
+abbrev pub right_dataset : List Dataset → Step → Dataset
+right_dataset As s = of_right empty As s
+
+-- the dataset of a step: its operator on its inputs
 abbrev pub eval_step : List SourceType → Family → Step → List Dataset → Dataset
-eval_step types F (Step.Source name) As = unwrap_or (option_map (dataset_at F) (place_of name types)) empty
-eval_step types F (Step.Filter of test) As = filtered (passes test) (dataset_at As of)
-eval_step types F (Step.Select of row) As = selected (row_of row) (dataset_at As of)
-eval_step types F (Step.Many of over items) As = spread over (giving items) (dataset_at As of)
-eval_step types F (Step.Shave of runs) As = shaved (pieces runs) (dataset_at As of)
-eval_step types F (Step.Set kind left right) As = pointwise (set_weight kind) (dataset_at As left) (dataset_at As right)
-eval_step types F (Step.Join left right left_key right_key) As = joined (row_of left_key) (row_of right_key) (dataset_at As left) (dataset_at As right)
-eval_step types F (Step.Group of key reduce) As = grouped (row_of key) (reduced_to reduce) (dataset_at As of)
+eval_step types F s As = operator_of s (left_dataset types F As s) (right_dataset As s)
 
 -- the datasets of all steps
 abbrev pub evals : List Step → List SourceType → Family → List Dataset

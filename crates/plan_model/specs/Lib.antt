@@ -1,10 +1,13 @@
+pub mod Sizes
 pub mod Values
 pub mod Pieces
 pub mod Limits
 pub mod Sources
+pub mod Inputs
 pub mod Evaluation
 pub mod Uses
 pub mod Fits
+pub mod Keys
 pub mod Types
 pub mod Acceptance
 pub mod Laws

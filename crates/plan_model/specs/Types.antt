@@ -14,6 +14,7 @@ use Rattle.plan_model.specs.declared.step.SetKind.{SetKind}
 use Rattle.plan_model.specs.declared.step.Step.{Step}
 use Rattle.plan_model.specs.declared.source_types.SourceType.{SourceType}
 use Rattle.plan_model.specs.Evaluation.{Family, step_by_step}
+use Rattle.plan_model.specs.Inputs.{of_left, of_right}
 use Rattle.plan_model.specs.Sources.{place_of}
 use Rattle.plan_model.specs.Values.{kind_in, term_of}
 
@@ -69,17 +70,31 @@ reducer_kind cols (Reducer.Min c) = column_kind cols c
 reducer_kind cols (Reducer.Max c) = column_kind cols c
 reducer_kind cols (Reducer.Sum c) = Int
 
--- the columns of a step: those of its source or input, the kinds of its expressions, those of a shave's input
--- and Int, those of a join's left and of its right input, those of a group's key and of its reducer
+-- the columns that a step makes of those of its left and its right input: a source's are its own, and a shave's
+-- are its input's and Int, a join's those of both inputs, a group's those of its key and of its reducer
+abbrev pub output_columns : Step → List Kind → List Kind → List Kind
+output_columns (Step.Source name) left right = left
+output_columns (Step.Filter of test) left right = left
+output_columns (Step.Select of row) left right = kinds_over left row
+output_columns (Step.Many of over items) left right = kinds_over left (first_row items)
+output_columns (Step.Shave of runs) left right = left ++ Int ∷ []
+output_columns (Step.Set kind i j) left right = left
+output_columns (Step.Join i j left_key right_key) left right = left ++ right
+output_columns (Step.Group of key reduce) left right = kinds_over left key ++ reducer_kind left reduce ∷ []
+
+-- the columns of the left input: a source's own at its step, else those of the step named first; cs are those of
+-- the steps
+abbrev pub left_columns : List SourceType → List (List Kind) → Step → List Kind
+left_columns types cs (Step.Source name) = unwrap_or (option_map (λ t. t.kinds) (source_named name types)) []
+left_columns types cs s = of_left [] cs s
+
+-- the columns of the right input, none where there is none
+abbrev pub right_columns : List (List Kind) → Step → List Kind
+right_columns cs s = of_right [] cs s
+
+-- the columns of a step
 abbrev pub columns_step : List SourceType → Step → List (List Kind) → List Kind
-columns_step types (Step.Source name) cs = unwrap_or (option_map (λ t. t.kinds) (source_named name types)) []
-columns_step types (Step.Filter of test) cs = columns_at cs of
-columns_step types (Step.Select of row) cs = kinds_over (columns_at cs of) row
-columns_step types (Step.Many of over items) cs = kinds_over (columns_at cs of) (first_row items)
-columns_step types (Step.Shave of runs) cs = columns_at cs of ++ Int ∷ []
-columns_step types (Step.Set kind left right) cs = columns_at cs left
-columns_step types (Step.Join left right left_key right_key) cs = columns_at cs left ++ columns_at cs right
-columns_step types (Step.Group of key reduce) cs = kinds_over (columns_at cs of) key ++ reducer_kind (columns_at cs of) reduce ∷ []
+columns_step types s cs = output_columns s (left_columns types cs s) (right_columns cs s)
 
 -- the columns of all steps
 abbrev pub columns : List Step → List SourceType → List (List Kind)
@@ -98,17 +113,31 @@ set_sign SetKind.Intersect a b = a || b
 set_sign SetKind.Concat a b = a || b
 set_sign SetKind.Except a b = true
 
--- whether a weight of a step may be negative: a source's as it is declared, a filter's, a select's and a many's
--- as their input's, a join's where one input's may, and a shave's and a group's never
+-- whether a weight of a step may be negative, by whether one of its left and of its right input may: as the
+-- input's at a source, a filter, a select and a many, where one input's may at a join, and never at a shave and a
+-- group
+abbrev pub output_sign : Step → Bool → Bool → Bool
+output_sign (Step.Source name) left right = left
+output_sign (Step.Filter of test) left right = left
+output_sign (Step.Select of row) left right = left
+output_sign (Step.Many of over items) left right = left
+output_sign (Step.Shave of runs) left right = false
+output_sign (Step.Set kind i j) left right = set_sign kind left right
+output_sign (Step.Join i j left_key right_key) left right = left || right
+output_sign (Step.Group of key reduce) left right = false
+
+-- whether a weight of the left input may be negative: a source's as it is declared; bs are the signs of the steps
+abbrev pub left_sign : List SourceType → List Bool → Step → Bool
+left_sign types bs (Step.Source name) = unwrap_or (option_map (λ t. t.signed) (source_named name types)) true
+left_sign types bs s = of_left true bs s
+
+-- whether a weight of the right input may be negative
+abbrev pub right_sign : List Bool → Step → Bool
+right_sign bs s = of_right true bs s
+
+-- whether a weight of a step may be negative
 abbrev pub sign_step : List SourceType → Step → List Bool → Bool
-sign_step types (Step.Source name) bs = unwrap_or (option_map (λ t. t.signed) (source_named name types)) true
-sign_step types (Step.Filter of test) bs = flag_at bs of
-sign_step types (Step.Select of row) bs = flag_at bs of
-sign_step types (Step.Many of over items) bs = flag_at bs of
-sign_step types (Step.Shave of runs) bs = false
-sign_step types (Step.Set kind left right) bs = set_sign kind (flag_at bs left) (flag_at bs right)
-sign_step types (Step.Join left right left_key right_key) bs = flag_at bs left || flag_at bs right
-sign_step types (Step.Group of key reduce) bs = false
+sign_step types s bs = output_sign s (left_sign types bs s) (right_sign bs s)
 
 -- the signs of all steps
 abbrev pub signs : List Step → List SourceType → List Bool

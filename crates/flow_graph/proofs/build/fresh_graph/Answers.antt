@@ -6,6 +6,7 @@ use Rattle.plan_model.specs.Limits.{is_step}
 use Rattle.plan_model.specs.Types.{columns_step}
 use Rattle.flow_graph.proofs.Building.{AreBuilt-pushed, AreBuilt-start, IsFreshGraph-built, Passes-next, length-columns}
 use Rattle.flow_graph.proofs.PlanGraphs.{built_at}
+use Rattle.flow_graph.proofs.PlanSteps.{matches_kinds-of_steps}
 use Rattle.flow_graph.proofs.build.fresh_graph.Goals as goal
 
 pub loop-at-init : goal.loop-at-init
@@ -21,7 +22,9 @@ node_of-requires-clause-built c = built_at c.args.plan.now c.args.types.now c.re
 
 pub node_of-requires-clause-kinds : goal.node_of-requires-clause-kinds
 node_of-requires-clause-kinds c =
-    subst (λ cs. step_has_kinds c.step-step.result.now cs ≡ true) (sym (c.as_slice.ensures.value ∙ c.loop-at.invariant.of_columns)) (Passes-next _ c.args.plan.now c.args.types.now c.requires _ _ _ c.loop-at.at c.loop-at.invariant c.step-step.result.now c.step-step.ensures).right_kinds
+    let passes = Passes-next _ c.args.plan.now c.args.types.now c.requires _ _ _ c.loop-at.at c.loop-at.invariant c.step-step.result.now c.step-step.ensures in
+    matches_kinds-of_steps c.args.types.now c.step-step.result.now _
+    (subst (λ cs. step_has_kinds c.args.types.now c.step-step.result.now cs ≡ true) (sym (c.as_slice.ensures.value ∙ c.loop-at.invariant.of_columns)) passes.right_kinds)
 
 pub columns_of-cols-requires-clause-step : goal.columns_of-cols-requires-clause-step
 columns_of-cols-requires-clause-step c =
@@ -33,7 +36,7 @@ columns_of-cols-requires-clause-known c = (Passes-next _ c.args.plan.now c.args.
 
 pub columns_of-cols-requires-clause-columns : goal.columns_of-cols-requires-clause-columns
 columns_of-cols-requires-clause-columns c =
-    subst (λ cs. step_has_columns c.step-step.result.now cs ≡ true) (sym (c.as_slice-in-loop-at.ensures.value ∙ c.loop-at.invariant.of_columns)) (Passes-next _ c.args.plan.now c.args.types.now c.requires _ _ _ c.loop-at.at c.loop-at.invariant c.step-step.result.now c.step-step.ensures).within_width
+    subst (λ cs. step_has_columns c.args.types.now c.step-step.result.now cs ≡ true) (sym (c.as_slice-in-loop-at.ensures.value ∙ c.loop-at.invariant.of_columns)) (Passes-next _ c.args.plan.now c.args.types.now c.requires _ _ _ c.loop-at.at c.loop-at.invariant c.step-step.result.now c.step-step.ensures).within_width
 
 pub columns_of-cols-requires-clause-narrow : goal.columns_of-cols-requires-clause-narrow
 columns_of-cols-requires-clause-narrow c =

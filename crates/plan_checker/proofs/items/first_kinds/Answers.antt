@@ -3,6 +3,6 @@ use Rattle.plan_checker.proofs.items.first_kinds.Goals as goal
 
 pub kinds_over-requires : goal.kinds_over-requires
 kinds_over-requires c = record {
-  exprs = exprs-item c.args.items.now 0 _ c.at.ensures c.requires.items;
-  columns = row_within c.args.cols c.args.items.now 0 _ c.at.ensures c.requires.columns;
+  exprs = exprs-item c.args.items.now 0 _ c.first_item.ensures c.requires.items;
+  columns = row_within c.args.cols c.args.items.now 0 _ c.first_item.ensures c.requires.columns;
 }

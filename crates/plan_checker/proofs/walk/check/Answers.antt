@@ -1,5 +1,6 @@
 use Rattle.std.proofs.Common.{ap, ap₂, sym, ◌∙◌, arith}
-use Rattle.plan_checker.specs.Steps.{first_fault, row_step}
+use Rattle.plan_model.specs.Acceptance.{first_fault}
+use Rattle.plan_checker.specs.Steps.{row_step}
 use Rattle.plan_checker.proofs.Reached.{checked_end, made_some, reached_end, reached_fault, reached_more, step_after_columns, step_after_counts, step_after_signs}
 use Rattle.plan_checker.proofs.walk.check.Goals as goal
 
