@@ -8,6 +8,8 @@ use Rattle.ratios.specs.Ratio.{Ratio}
 use Rattle.frac_core.specs.Text.{weight_of}
 use Rattle.record_text.specs.FieldAtoms.{atom_of_field}
 use Rattle.record_text.specs.declared.atom.Atom.{Atom}
+use Rattle.record_text.specs.declared.field.AtomFault.{AtomFault}
+use Rattle.record_text.specs.declared.field.AtomFault.TheVariants as atom_fault
 use Rattle.record_text.specs.declared.kinds.Kind.{Kind}
 use Rattle.record_text.specs.declared.kinds.Kind.TheVariants as kind
 use Rattle.weighted_set.specs.declared.weighted.Weighted.{Weighted}
@@ -31,6 +33,14 @@ bad_record at w = record { at = at; what = w }
 abbrev pub fault_of_kind : Kind → CsvWhat
 fault_of_kind kind.Int = what.Int
 fault_of_kind kind.Text = what.Text
+
+-- the answer about a field, told of its record: the fault is what no field of this kind may be, and want of memory stays
+abbrev pub at_record : ℕ → Kind → Result Atom AtomFault → Result Atom CsvFault
+at_record at kind (Ok atom) = Ok atom
+at_record at kind (Err atom_fault.Memory) = Err fault.Memory
+at_record at kind (Err atom_fault.NotInt) = Err (fault.Bad at (fault_of_kind kind))
+at_record at kind (Err atom_fault.NotUtf8) = Err (fault.Bad at (fault_of_kind kind))
+at_record at kind (Err atom_fault.TextLong) = Err (fault.Bad at (fault_of_kind kind))
 
 -- the atom of a column's field, which is to be of the column's kind
 abbrev pub atom_at : ℕ → Kind → Option (List ℕ) → Result Atom BadRecord

@@ -1,9 +1,9 @@
 //! From CSV to the changes that it adds to a source.
-ghost use Rattle.std.specs.Prelude.{◌≡◌, [], ◌∷◌, All, IfOk, if◌then◌else◌, option_map, true};
+ghost use Rattle.std.specs.Prelude.{◌≡◌, ◌≢◌, [], ◌∷◌, All, Err, IfOk, if◌then◌else◌, option_map, true};
 ghost use Rattle.csv.specs.Reading.{default_config, records, strip_bom};
 ghost use Rattle.csv.specs.Records.{fields_of};
 ghost use Rattle.record_text.specs.KindLists.{kinds_of};
-ghost use Rattle.csv_changes.specs.Changes.{GivesCsv, atom_at, changes_in, changes_of, fault_of_kind, row_at, weight_at, weighted_at, without_header};
+ghost use Rattle.csv_changes.specs.Changes.{GivesCsv, at_record, atom_at, changes_in, changes_of, fault_of_kind, row_at, weight_at, weighted_at, without_header};
 ghost use Rattle.csv_changes.specs.RecordsLeft.{IsReading, records_left};
 
 use crate::fault::{CsvFault, CsvWhat};
@@ -106,7 +106,7 @@ fn next_record(reader: &mut Reader<&[u8]>, fields: &mut ByteRecord) -> Result<bo
     match reader.read_byte_record(fields) {
         Ok(found) => Ok(found),
         Err(error) => match error.kind() {
-            // Bytes in memory give no IO error, though no contract says so.
+            // Bytes in memory give no IO error, though no clause of `csv` says so.
             ErrorKind::Io(_) | ErrorKind::OutOfMemory => Err(Memory),
             _ => unreachable!(),
         },
@@ -141,10 +141,7 @@ fn weighted(
     ensures { GivesCsv result (weighted_at kinds at (fields_of fields.now)) }
 {
     if fields.len() != kinds.len() + 1 {
-        return Err(CsvFault::Bad {
-            at,
-            what: CsvWhat::Width,
-        });
+        return bad(at, CsvWhat::Width);
     }
     let row = row(alloc, at, fields, kinds)?;
     let weight = weight(at, fields.get(kinds.len()))?;
@@ -167,20 +164,28 @@ fn row(alloc: Global, at: usize, fields: &ByteRecord, kinds: Kinds) -> Result<Ro
 fn atom(alloc: Global, at: usize, field: Option<&[u8]>, kind: Kind) -> Result<Atom, CsvFault>
     ensures { GivesCsv result (atom_at at kind (option_map (λ text. text.now) field.entry)) }
 {
-    let Some(field) = field else {
-        return Err(CsvFault::Bad {
-            at,
-            what: CsvWhat::Width,
-        });
-    };
-    match atom_from_field(alloc, field, kind) {
+    match field {
+        Some(field) => at_record(at, kind, atom_from_field(alloc, field, kind)),
+        None => bad(at, CsvWhat::Width),
+    }
+}
+
+// The answer about a field, told of its record: only want of memory is want of memory.
+fn at_record(at: usize, kind: Kind, answer: Result<Atom, AtomFault>) -> Result<Atom, CsvFault>
+    ensures { result ≡ at_record at kind answer }
+{
+    match answer {
         Ok(atom) => Ok(atom),
         Err(AtomFault::Memory) => Err(CsvFault::Memory),
-        Err(_) => Err(CsvFault::Bad {
-            at,
-            what: fault_of_kind(kind),
-        }),
+        Err(_) => bad(at, fault_of_kind(kind)),
     }
+}
+
+// Refuses the record at this place.
+fn bad<T>(at: usize, what: CsvWhat) -> Result<T, CsvFault>
+    ensures { result ≡ Err (CsvFault.Bad at what) }
+{
+    Err(CsvFault::Bad { at, what })
 }
 
 // What a field is that is no atom of this kind.
@@ -193,21 +198,16 @@ fn fault_of_kind(kind: Kind) -> CsvWhat
     }
 }
 
-// The weight of a record's last field.
+// The weight of a record's last field. It takes no memory.
 fn weight(at: usize, field: Option<&[u8]>) -> Result<Frac, CsvFault>
-    ensures { GivesCsv result (weight_at at (option_map (λ text. text.now) field.entry)) }
+    ensures weight { GivesCsv result (weight_at at (option_map (λ text. text.now) field.entry)) }
+    ensures no_memory { result ≢ Err CsvFault.Memory }
 {
     let Some(field) = field else {
-        return Err(CsvFault::Bad {
-            at,
-            what: CsvWhat::Width,
-        });
+        return bad(at, CsvWhat::Width);
     };
     match Frac::read(field) {
         Ok(weight) => Ok(weight),
-        Err(_) => Err(CsvFault::Bad {
-            at,
-            what: CsvWhat::Weight,
-        }),
+        Err(_) => bad(at, CsvWhat::Weight),
     }
 }

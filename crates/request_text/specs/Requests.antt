@@ -1,57 +1,39 @@
 -- What a line asks for, or the first fault of one walk over it.
-use Rattle.std.specs.Prelude.{ℕ, ◌≤◌, ⊤, IsTrue, List, [], ◌∷◌, length, nat_lt, codes, if◌then◌else◌, Option, Some, None, option_and_then, Result, Ok, Err}
-use Rattle.std.specs.Str.{bytes_eq, is_utf8}
+use Rattle.std.specs.Prelude.{ℕ, ◌≤◌, ⊤, IsTrue, List, length, nat_lt, codes, if◌then◌else◌, Option, None, Result, Ok, Err}
+use Rattle.std.specs.Str.{is_utf8}
 use Rattle.serde_json.specs.Data.{Data, Members}
-use Rattle.serde_json.specs.Find.{get, as_str, as_object}
+use Rattle.serde_json.specs.Find.{as_object}
 use Rattle.serde_json.specs.Read.{read}
 use Rattle.json_fields.specs.Walk.{◌>>=◌, needed}
-use Rattle.json_fields.specs.Fields.{list_of}
 use Rattle.plan_model.specs.Limits.{is_plan}
 use Rattle.plan_reader.specs.Plans.{is_built}
-use Rattle.request_text.specs.Fields.{shape_fault, no_other, text_in, bool_in, flag_in, whole_in, weights_of, kinds_in, plan_of, rows_in, thing_word, one_of, named}
-use Rattle.request_text.specs.declared.refusal.Thing.{Thing}
-use Rattle.request_text.specs.declared.refusal.Thing.TheVariants as thing
-use Rattle.request_text.specs.declared.refusal.Refusal.{Refusal}
-use Rattle.request_text.specs.declared.refusal.Refusal.TheVariants as refusal
-use Rattle.request_text.specs.declared.request.Op.{Op}
-use Rattle.request_text.specs.declared.request.Op.TheVariants as op
-use Rattle.request_text.specs.declared.request.Target.{Target}
-use Rattle.request_text.specs.declared.request.Target.TheVariants as target
-use Rattle.request_text.specs.declared.request.Request.{Request}
-use Rattle.request_text.specs.declared.request.Request.TheVariants as request
-
--- the operation of this name
-abbrev pub op_named : List ℕ → Option Op
-op_named name =
-    if bytes_eq name (codes "sum") then Some op.Sum
-    else if bytes_eq name (codes "source") then Some op.Source
-    else if bytes_eq name (codes "update") then Some op.Update
-    else if bytes_eq name (codes "plan") then Some op.Plan
-    else if bytes_eq name (codes "drop") then Some op.Drop
-    else if bytes_eq name (codes "exact") then Some op.Exact
-    else None
-
--- the operation that the field `op` names
-abbrev pub op_of : Data → Option Op
-op_of d = option_and_then op_named (option_and_then as_str (get (codes "op") d))
-
--- the fields that an operation has
-abbrev pub op_fields : Op → List (List ℕ)
-op_fields op.Sum = codes "op" ∷ codes "weights" ∷ []
-op_fields op.Source = codes "op" ∷ codes "name" ∷ codes "kinds" ∷ codes "signed" ∷ codes "budget" ∷ []
-op_fields op.Update = codes "op" ∷ codes "source" ∷ codes "csv" ∷ codes "header" ∷ []
-op_fields op.Plan = codes "op" ∷ codes "name" ∷ codes "plan" ∷ []
-op_fields op.Drop = codes "op" ∷ codes "plan" ∷ []
-op_fields op.Exact = codes "op" ∷ codes "plan" ∷ codes "source" ∷ codes "rows" ∷ []
+use Rattle.messages.specs.Words.{thing_word}
+use Rattle.messages.specs.declared.thing.Thing.{Thing}
+use Rattle.messages.specs.declared.thing.Thing.TheVariants as thing
+use Rattle.messages.specs.declared.refusal.Refusal.{Refusal}
+use Rattle.messages.specs.declared.refusal.Refusal.TheVariants as refusal
+use Rattle.messages.specs.declared.target.Target.{Target}
+use Rattle.messages.specs.declared.target.Target.TheVariants as target
+use Rattle.messages.specs.declared.request.Request.{Request}
+use Rattle.messages.specs.declared.request.Request.TheVariants as request
+use Rattle.request_fields.specs.Fields.{bool_in, flag_in, kinds_in, max_rows, named, no_other, rows_in, shape_fault, text_in, thing_in, weights_in, whole_in}
+use Rattle.request_text.specs.Ops.{op_fields, op_of}
+use Rattle.request_text.specs.Plans.{plan_field}
+use Rattle.request_text.specs.declared.op.Op.{Op}
+use Rattle.request_text.specs.declared.op.Op.TheVariants as op
 
 -- Each operation has one definition: its fields in their order, then a field that it doesn't have, and last its names.
 
 -- the sum of weights
 unfoldable pub sum_in : Data → Members → Result Request Refusal
 sum_in d ms = do
-  weights ← weights_of (option_and_then list_of (get (codes "weights") d))
+  weights ← weights_in d
   known ← no_other (op_fields op.Sum) ms
   Ok (request.Sum weights)
+
+-- the greatest budget
+abbrev pub max_budget : ℕ
+max_budget = 1000000000000000
 
 -- a new source
 unfoldable pub source_in : Data → Members → Result Request Refusal
@@ -59,7 +41,7 @@ source_in d ms = do
   text ← text_in (codes "name") d
   kinds ← kinds_in d
   signed ← bool_in (codes "signed") d
-  budget ← whole_in (codes "budget") 0 1000000000000000 d
+  budget ← whole_in (codes "budget") 0 max_budget d
   known ← no_other (op_fields op.Source) ms
   name ← named (codes "name") text
   Ok (request.Source name kinds signed budget)
@@ -78,7 +60,7 @@ update_in d ms = do
 unfoldable pub plan_in : Data → Members → Result Request Refusal
 plan_in d ms = do
   text ← text_in (codes "name") d
-  plan ← plan_of (get (codes "plan") d)
+  plan ← plan_field d
   known ← no_other (op_fields op.Plan) ms
   name ← named (codes "name") text
   Ok (request.Plan name plan)
@@ -99,7 +81,7 @@ target_named thing.Plan name = target.Plan name
 -- rows to be looked up in a source or a plan; that just one of the two is there comes before all else
 unfoldable pub exact_in : Data → Members → Result Request Refusal
 exact_in d ms = do
-  thing ← one_of (get (codes "plan") d) (get (codes "source") d)
+  thing ← thing_in d
   text ← text_in (thing_word thing) d
   rows ← rows_in d
   known ← no_other (op_fields op.Exact) ms
@@ -141,8 +123,8 @@ request_on line = if nat_lt max_line (length line) then Err refusal.Line else re
 -- what every request that is read keeps to
 abbrev pub IsWithinLimits : Request → Type 0
 IsWithinLimits (request.Sum weights) = ⊤
-IsWithinLimits (request.Source name kinds signed budget) = budget ≤ 1000000000000000
+IsWithinLimits (request.Source name kinds signed budget) = budget ≤ max_budget
 IsWithinLimits (request.Update source csv header) = ⊤
 IsWithinLimits (request.Plan name plan) = IsTrue (is_built plan) × IsTrue (is_plan plan)
 IsWithinLimits (request.Drop plan) = ⊤
-IsWithinLimits (request.Exact of rows) = (1 ≤ length rows) × (length rows ≤ 1024)
+IsWithinLimits (request.Exact of rows) = (1 ≤ length rows) × (length rows ≤ max_rows)

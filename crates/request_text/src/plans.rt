@@ -1,28 +1,28 @@
 //! The plan of a request.
-ghost use Rattle.std.specs.Prelude.{◌≡◌, Err, IfOk, IsTrue, option_map};
+ghost use Rattle.std.specs.Prelude.{◌≡◌, Err, IfOk, IsTrue};
 ghost use Rattle.serde_json.specs.View.{view};
 ghost use Rattle.plan_model.specs.Limits.{is_plan};
 ghost use Rattle.plan_reader.specs.Plans.{is_built};
 ghost use Rattle.expr_text.specs.declared.fault.PlanText.TheVariants as walk;
-ghost use Rattle.request_text.specs.Gives.{Gives};
-ghost use Rattle.request_text.specs.Fields.{field_word, plan_fault, plan_of};
+ghost use Rattle.request_fields.specs.Gives.{Gives};
+ghost use Rattle.request_text.specs.Plans.{field_word, plan_fault, plan_field};
 
-use crate::fields::refuse;
-use crate::lists::FieldText;
-use crate::refusal::{ReadFault, Refusal};
+use messages::{FieldText, ReadFault, Refusal};
 use plan_model::Plan;
 use plan_reader::{Field, PlanText, read_plan};
+use request_fields::refuse;
 use serde_json::Value;
 use std::alloc::Global;
 
-/// The plan that a field denotes. The first fault of its walk is told with its step; a field that is missing
-/// is `Shape` with no step.
-pub fn plan(alloc: Global, field: Option<&Value>) -> Result<Plan, ReadFault>
-    ensures value { Gives result (plan_of (option_map (λ v. view v.now) field.entry)) }
+/// The plan that the field `plan` denotes. The first fault of its walk is told with its step; a field that is
+/// missing is `Shape` with no step.
+#[tactic(auto, unfolding(crate::specs::Plans::plan_field))]
+pub fn plan(alloc: Global, value: &Value) -> Result<Plan, ReadFault>
+    ensures value { Gives result (plan_field (view value.now)) }
     ensures built { IfOk result (λ plan. IsTrue (is_built plan)) }
     ensures limits { IfOk result (λ plan. IsTrue (is_plan plan)) }
 {
-    let Some(value) = field else {
+    let Some(value) = value.get("plan") else {
         return refuse(alloc, "plan");
     };
     match read_plan(alloc, value) {

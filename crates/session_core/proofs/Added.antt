@@ -8,9 +8,9 @@ use Rattle.weighted_set.specs.Adding.{AreChangesOfAdding, EndsAllowed, StaysInRa
 use Rattle.weighted_set.specs.Changes.{entries_of}
 use Rattle.weighted_set.specs.declared.weighted.Change.{Change}
 use Rattle.weighted_set.specs.declared.weighted.Weighted.{Weighted}
-use Rattle.request_text.specs.declared.refusal.Refusal.TheVariants as refusal
-use Rattle.request_text.specs.declared.write.Reply.{Reply}
-use Rattle.request_text.specs.declared.write.Reply.TheVariants as reply
+use Rattle.messages.specs.declared.refusal.Refusal.TheVariants as refusal
+use Rattle.messages.specs.declared.reply.Reply.{Reply}
+use Rattle.messages.specs.declared.reply.Reply.TheVariants as reply
 use Rattle.session_core.specs.Held.{HeldSources}
 use Rattle.session_core.specs.Machine.{Responds, added_at, below_zero, first_misfit, updated_at, with_source, with_weights}
 use Rattle.session_core.specs.Parts.{ArePending, AreSettled, Does, state_of}

@@ -9,9 +9,9 @@ use Rattle.std.specs.Cmp.Lexicographic.{lists_equiv}
 use Rattle.std.proofs.lemmas.Cmp.{nat_eq_equiv}
 use Rattle.record_text.specs.Names.{name_eq}
 use Rattle.plan_model.specs.Sources.{has_name}
-use Rattle.request_text.specs.Replies.{reply_line}
-use Rattle.request_text.specs.declared.write.Reply.{Reply}
-use Rattle.request_text.specs.declared.write.Reply.TheVariants as reply
+use Rattle.reply_text.specs.Replies.{reply_line}
+use Rattle.messages.specs.declared.reply.Reply.{Reply}
+use Rattle.messages.specs.declared.reply.Reply.TheVariants as reply
 use Rattle.session_core.specs.Held.{HeldSources}
 use Rattle.session_core.specs.Machine.{declared}
 use Rattle.session_core.specs.Named.{place_named, source_name}

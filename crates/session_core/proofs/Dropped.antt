@@ -10,9 +10,9 @@ use Rattle.std.proofs.lemmas.Map.Keys.{IsDistinct-from_apart, apart_from_distinc
 use lib.ListN.{length-map}
 use Rattle.indexmap.specs.IndexSet.{spare}
 use Rattle.record_text.specs.Names.{name_eq}
-use Rattle.request_text.specs.Replies.{reply_line}
-use Rattle.request_text.specs.declared.write.Reply.{Reply}
-use Rattle.request_text.specs.declared.write.Reply.TheVariants as reply
+use Rattle.reply_text.specs.Replies.{reply_line}
+use Rattle.messages.specs.declared.reply.Reply.{Reply}
+use Rattle.messages.specs.declared.reply.Reply.TheVariants as reply
 use Rattle.session_core.specs.Held.{HeldSources}
 use Rattle.session_core.specs.Machine.{dropped}
 use Rattle.session_core.specs.Named.{place_named, plan_name}

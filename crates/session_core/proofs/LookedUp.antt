@@ -4,11 +4,11 @@ use Rattle.record_text.specs.declared.kinds.Kind.{Kind}
 use Rattle.datasets.specs.Dataset.{Dataset, at}
 use Rattle.datasets.specs.Entries.{Row}
 use Rattle.plan_model.specs.Evaluation.{eval}
-use Rattle.request_text.specs.declared.refusal.Refusal.{Refusal}
-use Rattle.request_text.specs.declared.refusal.Refusal.TheVariants as refusal
-use Rattle.request_text.specs.declared.refusal.Thing.TheVariants as thing
-use Rattle.request_text.specs.declared.request.Target.TheVariants as target
-use Rattle.request_text.specs.declared.write.Reply.TheVariants as reply
+use Rattle.messages.specs.declared.refusal.Refusal.{Refusal}
+use Rattle.messages.specs.declared.refusal.Refusal.TheVariants as refusal
+use Rattle.messages.specs.declared.thing.Thing.TheVariants as thing
+use Rattle.messages.specs.declared.target.Target.TheVariants as target
+use Rattle.messages.specs.declared.reply.Reply.TheVariants as reply
 use Rattle.session_core.specs.Machine.{columns_of, exact_reply, first_row_fault, looked_up}
 use Rattle.session_core.specs.Named.{place_named, plan_name, source_name}
 use Rattle.session_core.specs.State.{PlanState, SourceState, State, family_of, types_of}

@@ -2,8 +2,8 @@
 use Rattle.std.proofs.Common.{◌≡◌, ℕ, List, ◌<◌, refl, ap, sym, ◌∙◌, inl, inr, length, lt-ltb}
 use Rattle.std.specs.Prelude.{ℤ, Err}
 use Rattle.request_text.specs.Requests.{request_on}
-use Rattle.request_text.specs.Replies.{reply_line}
-use Rattle.request_text.specs.declared.refusal.Refusal.TheVariants as refusal
+use Rattle.reply_text.specs.Replies.{reply_line}
+use Rattle.messages.specs.declared.refusal.Refusal.TheVariants as refusal
 use Rattle.session_core.specs.State.{State}
 use Rattle.session_core.specs.Machine.{answered, step, Stepped, GaveUp, Answers, memory_line}
 

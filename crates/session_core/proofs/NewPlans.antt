@@ -17,10 +17,10 @@ use Rattle.plan_model.specs.Acceptance.{Accepts, Fault, plan_fault_of}
 use Rattle.plan_model.specs.Uses.{uses}
 use Rattle.plan_model.specs.declared.source_types.SourceType.{SourceType}
 use Rattle.plan_model.specs.declared.step.Step.{Step}
-use Rattle.request_text.specs.Replies.{reply_line}
-use Rattle.request_text.specs.declared.refusal.Refusal.TheVariants as refusal
-use Rattle.request_text.specs.declared.write.Reply.{Reply}
-use Rattle.request_text.specs.declared.write.Reply.TheVariants as reply
+use Rattle.reply_text.specs.Replies.{reply_line}
+use Rattle.messages.specs.declared.refusal.Refusal.TheVariants as refusal
+use Rattle.messages.specs.declared.reply.Reply.{Reply}
+use Rattle.messages.specs.declared.reply.Reply.TheVariants as reply
 use Rattle.session_core.specs.Held.{HeldSources}
 use Rattle.session_core.specs.Machine.{columns_of, counts_of, misfit_on, planned, planned_at, uses_named}
 use Rattle.session_core.specs.Named.{plan_name, source_name}

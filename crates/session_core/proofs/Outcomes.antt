@@ -5,12 +5,12 @@ use Rattle.std.specs.List.{remove}
 use Rattle.std.proofs.lemmas.List.Quantifiers.{position-Some}
 use Rattle.csv_changes.specs.Changes.{BadRecord, changes_of}
 use Rattle.plan_model.specs.Acceptance.{plan_fault_of}
-use Rattle.request_text.specs.Replies.{reply_line}
-use Rattle.request_text.specs.declared.refusal.Refusal.{Refusal}
-use Rattle.request_text.specs.declared.refusal.Refusal.TheVariants as refusal
-use Rattle.request_text.specs.declared.refusal.Thing.TheVariants as thing
-use Rattle.request_text.specs.declared.write.Reply.{Reply}
-use Rattle.request_text.specs.declared.write.Reply.TheVariants as reply
+use Rattle.reply_text.specs.Replies.{reply_line}
+use Rattle.messages.specs.declared.refusal.Refusal.{Refusal}
+use Rattle.messages.specs.declared.refusal.Refusal.TheVariants as refusal
+use Rattle.messages.specs.declared.thing.Thing.TheVariants as thing
+use Rattle.messages.specs.declared.reply.Reply.{Reply}
+use Rattle.messages.specs.declared.reply.Reply.TheVariants as reply
 use Rattle.weighted_set.specs.declared.weighted.Weighted.{Weighted}
 use Rattle.session_core.specs.Machine.{added_at, declared, dropped, misfit_on, planned, planned_at, updated}
 use Rattle.session_core.specs.Named.{first_named, is_named, place_named, plan_name, source_name}

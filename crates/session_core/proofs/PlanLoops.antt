@@ -9,7 +9,7 @@ use Rattle.std.specs.List.{AllWithin}
 use Rattle.plan_model.specs.Evaluation.{Family}
 use Rattle.plan_model.specs.Fits.{misfit}
 use Rattle.plan_model.specs.declared.source_types.SourceType.{SourceType}
-use Rattle.request_text.specs.declared.refusal.Refusal.TheVariants as refusal
+use Rattle.messages.specs.declared.refusal.Refusal.TheVariants as refusal
 use Rattle.weighted_set.specs.declared.weighted.Change.{Change}
 use Rattle.session_core.specs.Machine.{first_misfit, range_or}
 use Rattle.session_core.specs.Planned.{Holds, IsPrepared, IsSettled, MayTurnAll, plan_state, plan_states}

@@ -13,8 +13,8 @@ use Rattle.record_text.specs.declared.kinds.Kind.{Kind}
 use Rattle.record_text.proofs.Equality.{kinds_decided}
 use Rattle.datasets.specs.Entries.{Row, has_row}
 use Rattle.datasets.proofs.Rows.{same_row-turned}
-use Rattle.request_text.specs.declared.refusal.Refusal.{Refusal}
-use Rattle.request_text.specs.declared.refusal.Refusal.TheVariants as refusal
+use Rattle.messages.specs.declared.refusal.Refusal.{Refusal}
+use Rattle.messages.specs.declared.refusal.Refusal.TheVariants as refusal
 use Rattle.session_core.specs.Machine.{first_row_fault}
 
 -- ---- tests

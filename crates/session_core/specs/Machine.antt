@@ -21,17 +21,17 @@ use Rattle.plan_model.specs.declared.step.Step.{Step}
 use Rattle.weighted_set.specs.Changes.{entries_of}
 use Rattle.weighted_set.specs.declared.weighted.Weighted.{Weighted}
 use Rattle.request_text.specs.Requests.{request_on}
-use Rattle.request_text.specs.Replies.{reply_line}
+use Rattle.reply_text.specs.Replies.{reply_line}
 use Rattle.csv_changes.specs.Changes.{BadRecord, changes_of}
-use Rattle.request_text.specs.declared.refusal.Refusal.{Refusal}
-use Rattle.request_text.specs.declared.refusal.Refusal.TheVariants as refusal
-use Rattle.request_text.specs.declared.refusal.Thing.TheVariants as thing
-use Rattle.request_text.specs.declared.request.Request.{Request}
-use Rattle.request_text.specs.declared.request.Request.TheVariants as request
-use Rattle.request_text.specs.declared.request.Target.{Target}
-use Rattle.request_text.specs.declared.request.Target.TheVariants as target
-use Rattle.request_text.specs.declared.write.Reply.{Reply}
-use Rattle.request_text.specs.declared.write.Reply.TheVariants as reply
+use Rattle.messages.specs.declared.refusal.Refusal.{Refusal}
+use Rattle.messages.specs.declared.refusal.Refusal.TheVariants as refusal
+use Rattle.messages.specs.declared.thing.Thing.TheVariants as thing
+use Rattle.messages.specs.declared.request.Request.{Request}
+use Rattle.messages.specs.declared.request.Request.TheVariants as request
+use Rattle.messages.specs.declared.target.Target.{Target}
+use Rattle.messages.specs.declared.target.Target.TheVariants as target
+use Rattle.messages.specs.declared.reply.Reply.{Reply}
+use Rattle.messages.specs.declared.reply.Reply.TheVariants as reply
 use Rattle.session_core.specs.Named.{first_named, index_named, plan_name, source_name}
 use Rattle.session_core.specs.State.{PlanState, SourceState, State, family_of, new_plan, new_source, types_of}
 

@@ -2,7 +2,7 @@
 use Rattle.std.specs.Prelude.{◌≡◌, ℕ, ◌+◌, ◌≤◌, ◌<◌, All, List, None, Result, length, map, vec_capacity, vec_len}
 use Rattle.std.specs.declared.alloc.AllocError.{AllocError}
 use Rattle.indexmap.specs.IndexSet.{spare}
-use Rattle.request_text.specs.declared.write.Reply.{Reply}
+use Rattle.messages.specs.declared.reply.Reply.{Reply}
 use Rattle.weighted_set.specs.declared.weighted.Change.{Change}
 use Rattle.session_core.specs.Flow.{TurnsInto}
 use Rattle.session_core.specs.Machine.{Responds}

@@ -3,7 +3,7 @@ use Rattle.std.specs.Prelude.{◌≡◌, ℕ, ◌<◌, All, List, [], length, ma
 use Rattle.plan_model.specs.Evaluation.{Family, last_or}
 use Rattle.plan_model.specs.Types.{columns}
 use Rattle.plan_model.specs.declared.source_types.SourceType.{SourceType}
-use Rattle.request_text.specs.declared.refusal.Refusal.TheVariants as refusal
+use Rattle.messages.specs.declared.refusal.Refusal.TheVariants as refusal
 use Rattle.weighted_set.specs.declared.weighted.Change.{Change}
 use Rattle.session_core.specs.Flow.{IsGraphOf, IsIdle, StandsFor, StandsPending, TurnsInto}
 use Rattle.session_core.specs.Machine.{first_misfit}

@@ -1,8 +1,8 @@
 -- Which requests read or write what plans keep.
 use Rattle.std.specs.Prelude.{Bool, true, false, Result, Ok}
-use Rattle.request_text.specs.declared.refusal.Refusal.{Refusal}
-use Rattle.request_text.specs.declared.request.Request.{Request}
-use Rattle.request_text.specs.declared.request.Request.TheVariants as request
+use Rattle.messages.specs.declared.refusal.Refusal.{Refusal}
+use Rattle.messages.specs.declared.request.Request.{Request}
+use Rattle.messages.specs.declared.request.Request.TheVariants as request
 
 -- all requests but updates and declarations of plans take no step
 abbrev pub is_still : Result Request Refusal → Bool

@@ -1,7 +1,7 @@
 //! Exact weights of rows, for the curator alone.
 ghost use Rattle.std.specs.Prelude.{◌≡◌, [], IfOk, map};
 ghost use Rattle.datasets.specs.Dataset.{at};
-ghost use Rattle.request_text.specs.declared.request.Target.TheVariants as target;
+ghost use Rattle.messages.specs.declared.target.Target.TheVariants as target;
 ghost use Rattle.session_core.specs.Machine.{exact_reply, first_row_fault};
 ghost use Rattle.session_core.specs.Parts.{AreSettled, state_of};
 

@@ -1,8 +1,8 @@
 //! What a session keeps, and its answer to a line.
 ghost use Rattle.std.specs.Prelude.{◌≡◌, ◌++◌, true, IfOk, Ok, OnErr, OnOk};
 ghost use Rattle.request_text.specs.Requests.{IsWithinLimits, request_on};
-ghost use Rattle.request_text.specs.Replies.{reply_line};
-ghost use Rattle.request_text.specs.declared.write.Reply.TheVariants as answer;
+ghost use Rattle.reply_text.specs.Replies.{reply_line};
+ghost use Rattle.messages.specs.declared.reply.Reply.TheVariants as answer;
 ghost use Rattle.session_core.specs.Machine.{answered, performed, sum_reply};
 ghost use Rattle.session_core.specs.Parts.{AreSettled, Does, state_of};
 ghost use Rattle.session_core.specs.State.{start_state};

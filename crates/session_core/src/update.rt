@@ -1,7 +1,7 @@
 //! Weights that are added to a source, and what follows from them in the plans.
 ghost use Rattle.std.specs.Prelude.{◌≡◌, ◌<◌, All, None, Some, length, slice_get};
 ghost use Rattle.record_text.specs.KindLists.{kinds_of};
-ghost use Rattle.request_text.specs.declared.write.Reply.TheVariants as answer;
+ghost use Rattle.messages.specs.declared.reply.Reply.TheVariants as answer;
 ghost use Rattle.session_core.specs.Machine.{added_at, first_misfit, updated, updated_at};
 ghost use Rattle.session_core.specs.Parts.{AreHeld, ArePending, ArePrepared, AreSettled, Does, state_of};
 ghost use Rattle.session_core.specs.State.{SourceState, family_of, types_of};

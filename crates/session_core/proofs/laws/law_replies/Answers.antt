@@ -1,9 +1,9 @@
 use Rattle.std.proofs.Common.{◌≡◌, ℕ, List, Some, None, get_or, ap, arith}
 use Rattle.request_text.specs.Requests.{request_on}
-use Rattle.request_text.specs.Replies.{reply_line}
-use Rattle.request_text.specs.declared.refusal.Refusal.TheVariants as refusal
-use Rattle.request_text.specs.declared.write.Reply.{Reply}
-use Rattle.request_text.specs.declared.write.Reply.TheVariants as reply
+use Rattle.reply_text.specs.Replies.{reply_line}
+use Rattle.messages.specs.declared.refusal.Refusal.TheVariants as refusal
+use Rattle.messages.specs.declared.reply.Reply.{Reply}
+use Rattle.messages.specs.declared.reply.Reply.TheVariants as reply
 use Rattle.session_core.specs.Machine.{step, answered, memory_line}
 use Rattle.serde_json.proofs.OnLiterals.{serde_json_on_literals}
 use Rattle.session_core.proofs.laws.law_replies.Goals as goal

@@ -3,7 +3,7 @@ use lib.Seq.{map-set_same}
 use Rattle.plan_model.specs.Evaluation.{Family}
 use Rattle.plan_model.specs.Fits.{misfit}
 use Rattle.plan_model.specs.declared.source_types.SourceType.{SourceType}
-use Rattle.request_text.specs.declared.refusal.Refusal.TheVariants as refusal
+use Rattle.messages.specs.declared.refusal.Refusal.TheVariants as refusal
 use Rattle.session_core.specs.FlowFaults.{IsMisfit}
 use Rattle.session_core.specs.Machine.{first_misfit}
 use Rattle.session_core.specs.Planned.{MayTurnAll, plan_state}

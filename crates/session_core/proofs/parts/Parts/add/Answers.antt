@@ -1,7 +1,7 @@
 use Rattle.std.proofs.Common.{List, None, ap, ap₂, subst, ◌∙◌, length}
 use Rattle.weighted_set.specs.Adding.{IsAddFault}
 use Rattle.weighted_set.specs.declared.adding.AddFault.{AddFault}
-use Rattle.request_text.specs.declared.refusal.Refusal.TheVariants as refusal
+use Rattle.messages.specs.declared.refusal.Refusal.TheVariants as refusal
 use Rattle.session_core.specs.Machine.{added_at, first_misfit, updated_at}
 use Rattle.session_core.specs.Parts.{state_of}
 use Rattle.session_core.specs.State.{SourceState, State, family_of, types_of}

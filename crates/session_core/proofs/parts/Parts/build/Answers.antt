@@ -8,7 +8,7 @@ use Rattle.plan_model.specs.Types.{Keeps}
 use Rattle.plan_model.specs.declared.source_types.SourceType.{SourceType}
 use Rattle.record_text.specs.Names.{name_eq}
 use Rattle.record_text.specs.declared.name.Name.{Name}
-use Rattle.request_text.specs.declared.refusal.Refusal.TheVariants as refusal
+use Rattle.messages.specs.declared.refusal.Refusal.TheVariants as refusal
 use Rattle.session_core.specs.Flow.{IsGraphOf, StandsFor, committed_family}
 use Rattle.session_core.specs.Machine.{planned}
 use Rattle.session_core.specs.Parts.{state_of}

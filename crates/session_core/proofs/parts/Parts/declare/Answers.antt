@@ -1,6 +1,6 @@
 use Rattle.std.proofs.Common.{◌∙◌, sym, arith}
-use Rattle.request_text.specs.declared.refusal.Refusal.TheVariants as refusal
-use Rattle.request_text.specs.declared.refusal.Thing.TheVariants as thing
+use Rattle.messages.specs.declared.refusal.Refusal.TheVariants as refusal
+use Rattle.messages.specs.declared.thing.Thing.TheVariants as thing
 use Rattle.session_core.specs.Machine.{declared}
 use Rattle.session_core.specs.Parts.{state_of}
 use Rattle.session_core.specs.State.{new_source}

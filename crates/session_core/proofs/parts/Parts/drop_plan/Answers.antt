@@ -1,7 +1,7 @@
 use Rattle.std.proofs.Common.{ap, arith, refl, sym, ◌∙◌}
 use Rattle.std.specs.List.{remove}
-use Rattle.request_text.specs.declared.refusal.Refusal.TheVariants as refusal
-use Rattle.request_text.specs.declared.refusal.Thing.TheVariants as thing
+use Rattle.messages.specs.declared.refusal.Refusal.TheVariants as refusal
+use Rattle.messages.specs.declared.thing.Thing.TheVariants as thing
 use Rattle.session_core.specs.Machine.{dropped}
 use Rattle.session_core.specs.Parts.{state_of}
 use Rattle.session_core.proofs.Dropped.{Does-dropped}

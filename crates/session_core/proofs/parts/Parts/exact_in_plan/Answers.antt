@@ -1,6 +1,6 @@
 use Rattle.std.proofs.Common.{◌<◌, ◌∙◌, ap, length, subst, sym}
 use lib.ListN.{length-map}
-use Rattle.request_text.specs.declared.write.Reply.TheVariants as reply
+use Rattle.messages.specs.declared.reply.Reply.TheVariants as reply
 use Rattle.session_core.specs.Named.{plan_name}
 use Rattle.session_core.specs.Parts.{state_of}
 use Rattle.session_core.specs.Planned.{IsSettled, plan_state, plan_states}

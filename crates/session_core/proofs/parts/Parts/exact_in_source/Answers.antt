@@ -4,7 +4,7 @@ use Rattle.std.proofs.lemmas.Option.{get_or_from_slice_get, slice_get-map}
 use lib.ListN.{length-map}
 use Rattle.datasets.specs.Dataset.{Dataset, at}
 use Rattle.plan_model.specs.declared.source_types.SourceType.{SourceType}
-use Rattle.request_text.specs.declared.write.Reply.TheVariants as reply
+use Rattle.messages.specs.declared.reply.Reply.TheVariants as reply
 use Rattle.weighted_set.specs.Held.{HeldDatasets}
 use Rattle.session_core.specs.Named.{source_name}
 use Rattle.session_core.specs.Parts.{state_of}

@@ -1,10 +1,10 @@
 use Rattle.std.proofs.Common.{List, None, Option, Some, ap, refl, subst, sym, ◌∙◌, ℕ}
 use Rattle.std.specs.Vec.{with_items}
 use Rattle.plan_model.specs.declared.source_types.SourceType.{SourceType}
-use Rattle.request_text.specs.declared.refusal.Refusal.{Refusal}
-use Rattle.request_text.specs.declared.refusal.Refusal.TheVariants as refusal
-use Rattle.request_text.specs.declared.write.Reply.{Reply}
-use Rattle.request_text.specs.declared.write.Reply.TheVariants as reply
+use Rattle.messages.specs.declared.refusal.Refusal.{Refusal}
+use Rattle.messages.specs.declared.refusal.Refusal.TheVariants as refusal
+use Rattle.messages.specs.declared.reply.Reply.{Reply}
+use Rattle.messages.specs.declared.reply.Reply.TheVariants as reply
 use Rattle.session_core.specs.Machine.{first_misfit, updated_at}
 use Rattle.session_core.specs.Parts.{state_of}
 use Rattle.session_core.proofs.Added.{Does-same}

@@ -1,7 +1,7 @@
 use Rattle.std.proofs.Common.{◌<◌, ◌∙◌, List, ap, arith, length, subst, sym}
 use lib.ListN.{length-map}
-use Rattle.request_text.specs.declared.refusal.Refusal.TheVariants as refusal
-use Rattle.request_text.specs.declared.refusal.Thing.TheVariants as thing
+use Rattle.messages.specs.declared.refusal.Refusal.TheVariants as refusal
+use Rattle.messages.specs.declared.thing.Thing.TheVariants as thing
 use Rattle.plan_checker.specs.Checked.{IsChecked, IsPlanFault}
 use Rattle.plan_checker.specs.declared.walk.PlanFault.{PlanFault}
 use Rattle.plan_model.specs.Acceptance.{Fault, plan_fault_of}

@@ -3,8 +3,8 @@ use Rattle.std.proofs.lemmas.Option.{get_or_from_slice_get}
 use Rattle.csv_changes.specs.Changes.{FailsCsv, changes_of}
 use Rattle.csv_changes.specs.declared.fault.CsvFault.{CsvFault}
 use Rattle.plan_model.specs.declared.source_types.SourceType.{SourceType}
-use Rattle.request_text.specs.declared.refusal.Refusal.TheVariants as refusal
-use Rattle.request_text.specs.declared.refusal.Thing.TheVariants as thing
+use Rattle.messages.specs.declared.refusal.Refusal.TheVariants as refusal
+use Rattle.messages.specs.declared.thing.Thing.TheVariants as thing
 use Rattle.session_core.specs.Machine.{added_at, updated}
 use Rattle.session_core.specs.Named.{source_name}
 use Rattle.session_core.specs.Parts.{state_of}

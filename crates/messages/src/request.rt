@@ -1,0 +1,43 @@
+//! What a line asks for.
+
+use crate::lists::{Bytes, Rows, Weights};
+use crate::target::Target;
+use plan_model::Plan;
+use record_text::{Kinds, Name};
+
+/// A request that was read.
+#[derive(Drop)]
+pub enum Request {
+    /// The sum of the weights.
+    Sum {
+        weights: Weights,
+    },
+    /// A new source with these columns, whose weights may be negative only where it is signed. Its budget
+    /// is in millionths of epsilon, at most 10^15.
+    Source {
+        name: Name,
+        kinds: Kinds,
+        signed: bool,
+        budget: u64,
+    },
+    /// Weights to be added to the source's rows, as a CSV text, with or without a header.
+    Update {
+        source: Name,
+        csv: Bytes,
+        header: bool,
+    },
+    /// A new plan.
+    Plan {
+        name: Name,
+        plan: Plan,
+    },
+    /// The plan of this name is to be taken out.
+    Drop {
+        plan: Name,
+    },
+    /// The weights of 1 to 1,024 rows.
+    Exact {
+        of: Target,
+        rows: Rows,
+    },
+}

@@ -1,0 +1,2 @@
+pub mod ListData
+pub mod Plain

@@ -1,7 +1,0 @@
-use Rattle.std.proofs.Common.{◌≡◌, map, take}
-use Rattle.serde_json.specs.View.{view}
-use Rattle.request_text.specs.Replies.{kind_data}
-use Rattle.request_text.proofs.write.kinds_value.Given as goal
-
-abbrev pub invariant-loop-column : goal.invariant-loop-column
-invariant-loop-column l = map view l.list.items ≡ map kind_data (take l.column l.kinds)
