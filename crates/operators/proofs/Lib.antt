@@ -10,3 +10,5 @@ pub mod OutputSigns
 pub mod Once
 pub mod SingleWeights
 pub mod LevelOrder
+pub mod Elsewhere
+pub mod KeyWeights

@@ -58,7 +58,7 @@ module _ (P : Row → Type 0) where
 
   -- ---- rows of either
 
-  AllByRecursion-with_row : (x : Row) (ys : List Row) → P x → AllByRecursion P ys → AllByRecursion P (with_row x ys)
+  pub AllByRecursion-with_row : (x : Row) (ys : List Row) → P x → AllByRecursion P ys → AllByRecursion P (with_row x ys)
   AllByRecursion-with_row x [] p h = (p, tt)
   AllByRecursion-with_row x (y ∷ ys) p h =
       elim (row_cmp x y) as (λ o. AllByRecursion P (match_ordering o (x ∷ y ∷ ys) (y ∷ ys) (y ∷ with_row x ys))) [ Less ↦ (p, h) | Equal ↦ h | Greater ↦ (h.0, AllByRecursion-with_row x ys p h.1) ]

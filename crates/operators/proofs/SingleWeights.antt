@@ -31,10 +31,10 @@ at-gathered-once row weight x xs only once =
 
 -- ---- lists of equal lengths, one after another
 
-same_fronts : {A : Type 0} (v w : List A) (y z : List A) → length v ≡ length w → v ++ y ≡ w ++ z → v ≡ w
+pub same_fronts : {A : Type 0} (v w : List A) (y z : List A) → length v ≡ length w → v ++ y ≡ w ++ z → v ≡ w
 same_fronts v w y z l e = sym (take-append_seam v y) ∙ ap₂ take l e ∙ take-append_seam w z
 
-same_backs : {A : Type 0} (v w : List A) (y z : List A) → length v ≡ length w → v ++ y ≡ w ++ z → y ≡ z
+pub same_backs : {A : Type 0} (v w : List A) (y z : List A) → length v ≡ length w → v ++ y ≡ w ++ z → y ≡ z
 same_backs v w y z l e = sym (drop-append_seam v y) ∙ ap₂ drop l e ∙ drop-append_seam w z
 
 -- ---- pieces of a shave

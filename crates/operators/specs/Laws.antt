@@ -1,12 +1,14 @@
 -- Laws of the operators, each the contract of a function.
-use Rattle.std.specs.Prelude.{◌≡◌, ◌⊎◌, ◌↔◌, ◌<◌, ℕ, pos, Bool, true, List, [], ◌∷◌, ◌++◌, Contains, length, map}
+use Rattle.std.specs.Prelude.{◌≡◌, ◌≢◌, ◌⊎◌, ◌↔◌, ◌<◌, ℕ, pos, Bool, true, List, [], ◌∷◌, ◌++◌, Contains, length, map}
 use Rattle.std.specs.List.Sorted.{IsStrictlySortedBy}
-use Rattle.ratios.specs.Ratio.{Ratio, ratio_add, ratio_cmp, ratio_div, ratio_max, ratio_min, ratio_mul, ratio_sub, zero_ratio, ◌≼◌}
+use Rattle.ratios.specs.Ratio.{Ratio, ratio_add, ratio_cmp, ratio_div, ratio_half, ratio_max, ratio_min, ratio_mul, ratio_sub, zero_ratio, ◌≼◌}
+use Rattle.ratios.specs.Sums.{ratio_sum}
 use Rattle.record_text.specs.declared.atom.Atom.{Atom}
 use Rattle.record_text.specs.declared.atom.Atom.TheVariants.{Int}
 use Rattle.datasets.specs.Dataset.{Dataset, at, norm, rows}
 use Rattle.datasets.specs.Entries.{Row, has_row}
-use Rattle.operators.specs.Operators.{Giving, filter_weight, filtered, group_weight, grouped, join_weight, joined, levels, many_weight, part, piece, pointwise, pointwise_weight, select_weight, selected, shave_weight, shaved, spread}
+use Rattle.operators.specs.Weights.{weights_for}
+use Rattle.operators.specs.Operators.{Giving, filter_weight, filtered, gap, group_weight, grouped, join_weight, joined, keys, levels, many_weight, part, piece, pointwise, pointwise_weight, select_weight, selected, shave_weight, shaved, spread, top}
 
 -- ---- weights
 
@@ -60,6 +62,12 @@ abbrev pub JoinPairs : Type 0
 JoinPairs = (f g : Row → Row) (A B : Dataset) (n : ℕ) (x y : Row) → HasWidth n A → has_row (rows A) x ≡ true → has_row (rows B) y ≡ true → f x ≡ g y →
     at (joined f g A B) (x ++ y) ≡ ratio_div (ratio_mul (at A x) (at B y)) (ratio_add (norm (part f (f x) A)) (norm (part g (f x) B)))
 
+-- at a key followed by an atom: half the gap of each level of the key's rows whose rows are reduced to the atom
+abbrev pub GroupAtKey : Type 0
+GroupAtKey = (key : Row → Row) (reduce : List Row → Atom) (A : Dataset) (k : Row) (a : Atom) → has_row (keys key A) k ≡ true →
+    let P : Dataset = part key k A in
+    at (grouped key reduce A) (k ++ a ∷ []) ≡ ratio_sum (weights_for (λ t. reduce (top P t) ∷ []) (λ t. ratio_half (gap P t)) (levels P) (a ∷ []))
+
 -- each level is above the next
 abbrev pub LevelsFall : Type 0
 LevelsFall = (P : Dataset) → IsStrictlySortedBy (λ t u. ratio_cmp u t) (levels P)
@@ -67,6 +75,23 @@ LevelsFall = (P : Dataset) → IsStrictlySortedBy (λ t u. ratio_cmp u t) (level
 -- the levels are the weights that occur
 abbrev pub LevelsAreWeights : Type 0
 LevelsAreWeights = (P : Dataset) (t : Ratio) → Contains (levels P) t ↔ Contains (map (at P) (rows P)) t
+
+-- ---- rows of another form weigh 0
+
+-- a row that isn't a row of the input followed by the place of a piece
+abbrev pub ShaveElsewhere : Type 0
+ShaveElsewhere = (fs : List Ratio) (A : Dataset) (z : Row) →
+    ((x : Row) (i : ℕ) → has_row (rows A) x ≡ true → i < length fs → z ≢ x ++ Int (pos i) ∷ []) → at (shaved fs A) z ≡ zero_ratio
+
+-- a row that isn't a row of the left input followed by one of the right with an equal key
+abbrev pub JoinElsewhere : Type 0
+JoinElsewhere = (f g : Row → Row) (A B : Dataset) (z : Row) →
+    ((x y : Row) → has_row (rows A) x ≡ true → has_row (rows B) y ≡ true → f x ≡ g y → z ≢ x ++ y) → at (joined f g A B) z ≡ zero_ratio
+
+-- a row that isn't a key that occurs followed by an atom
+abbrev pub GroupElsewhere : Type 0
+GroupElsewhere = (key : Row → Row) (reduce : List Row → Atom) (A : Dataset) (z : Row) →
+    ((k : Row) (a : Atom) → has_row (keys key A) k ≡ true → z ≢ k ++ a ∷ []) → at (grouped key reduce A) z ≡ zero_ratio
 
 -- ---- signs
 

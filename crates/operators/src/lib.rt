@@ -4,7 +4,7 @@
 //! functions here run nothing, and their contracts are laws.
 #![tactic(auto)]
 
-ghost use Rattle.operators.specs.Laws.{ConcatKeepsSigns, ConcatWeighs, ExceptWeighs, FilterKeepsSigns, FilterWeighs, GroupKeepsSigns, GroupWeighs, IntersectKeepsSigns, IntersectWeighs, JoinKeepsSigns, JoinPairs, JoinWeighs, LevelsAreWeights, LevelsFall, ManyKeepsSigns, ManyWeighs, SelectKeepsSigns, SelectWeighs, ShaveIsNotNegative, ShavePieces, ShaveWeighs, UnionKeepsSigns, UnionWeighs};
+ghost use Rattle.operators.specs.Laws.{ConcatKeepsSigns, ConcatWeighs, ExceptWeighs, FilterKeepsSigns, FilterWeighs, GroupAtKey, GroupElsewhere, GroupKeepsSigns, GroupWeighs, IntersectKeepsSigns, IntersectWeighs, JoinElsewhere, JoinKeepsSigns, JoinPairs, JoinWeighs, LevelsAreWeights, LevelsFall, ManyKeepsSigns, ManyWeighs, SelectKeepsSigns, SelectWeighs, ShaveElsewhere, ShaveIsNotNegative, ShavePieces, ShaveWeighs, UnionKeepsSigns, UnionWeighs};
 
 /// The dataset that stands for an operator's output has the weight of the operator's formula at
 /// every row.
@@ -21,12 +21,20 @@ pub fn law_weights()
     ensures group { GroupWeighs }
 {}
 
-/// The output rows of a shave and of a join, and the levels of a group.
+/// The output rows of a shave, of a join and of a group, and the levels of a group.
 pub fn law_outputs()
     ensures pieces { ShavePieces }
     ensures pairs { JoinPairs }
     ensures levels_fall { LevelsFall }
     ensures levels_are_weights { LevelsAreWeights }
+    ensures group_at_key { GroupAtKey }
+{}
+
+/// A shave, a join and a group weigh 0 at rows of another form than theirs.
+pub fn law_elsewhere()
+    ensures shave { ShaveElsewhere }
+    ensures join { JoinElsewhere }
+    ensures group { GroupElsewhere }
 {}
 
 /// Where an output has no negative weight.

@@ -1,3 +1,4 @@
+use Rattle.operators.proofs.KeyWeights.{group_at_key}
 use Rattle.operators.proofs.SingleWeights.{at-joined-pair, at-shaved-piece}
 use Rattle.operators.proofs.LevelOrder.{levels_are_weights, levels_fall}
 use Rattle.operators.proofs.law_outputs.Goals as goal
@@ -8,4 +9,5 @@ returns c = record {
   pairs = at-joined-pair;
   levels_fall = levels_fall;
   levels_are_weights = levels_are_weights;
+  group_at_key = group_at_key;
 }
