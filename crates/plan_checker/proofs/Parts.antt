@@ -1,4 +1,4 @@
--- The parts of steps that are those of a plan, and of steps that pass their checks.
+-- The items of steps that are those of a plan.
 use Rattle.std.specs.Prelude.{◌≡◌, ℕ, zero, suc, ◌+◌, ◌<◌, nat_le, Bool, true, List, [], ◌∷◌, ◌++◌, length, slice_get, Some, None, option_to_list}
 use Rattle.std.specs.List.{list_all}
 use Rattle.std.proofs.Common.{sym, ◌∙◌, subst, arith}
@@ -13,6 +13,7 @@ use Rattle.plan_model.specs.Limits.{are_exprs, are_steps, is_guard, is_item, is_
 use Rattle.plan_model.specs.Values.{has_columns, term_of}
 use Rattle.record_text.proofs.Lists.{passes_at}
 use Rattle.plan_checker.proofs.Members.{list_all-flat_map}
+pub use Rattle.plan_model.proofs.Plans.{some_steps, step_of_plan}
 
 -- ---- items
 
@@ -38,24 +39,3 @@ module _ (cols : List Kind) (items : List Item) (k : ℕ) (item : Item) (at : sl
 
   pub row_within : have_columns cols item.row ≡ true
   row_within = within-item.1
-
--- ---- steps
-
-step_from : (from : ℕ) (ss : List Step) (i : ℕ) (s : Step) → slice_get ss i ≡ Some s → are_steps from ss ≡ true → is_step (from + i) s ≡ true
-step_from from [] i s at steps = cc
-step_from from (t ∷ ss) zero s at steps =
-    let same : t ≡ s = cc in
-    let here : from ≡ from + 0 = omega arith in
-    subst (λ u. is_step (from + 0) u ≡ true) same (subst (λ n. is_step n t ≡ true) here ((and_parts _ (are_steps (from + 1) ss) steps).0))
-step_from from (t ∷ ss) (suc i) s at steps =
-    let next : (from + 1) + i ≡ from + suc i = omega arith in
-    subst (λ n. is_step n s ≡ true) next (step_from (from + 1) ss i s at ((and_parts _ (are_steps (from + 1) ss) steps).1))
-
--- each step of a plan is one at its place
-pub step_of_plan : (p : List Step) (i : ℕ) (s : Step) → slice_get p i ≡ Some s → is_plan p ≡ true → is_step i s ≡ true
-step_of_plan p i s at plan =
-    let here : 0 + i ≡ i = omega arith in
-    subst (λ n. is_step n s ≡ true) here (step_from 0 p i s at ((and_parts _ (are_steps 0 p) plan).1))
-
-pub some_steps : (p : List Step) → is_plan p ≡ true → 0 < length p
-some_steps p plan = let few = (and_parts _ (are_steps 0 p) plan).0 in leb-true 1 (length p) ((and_parts (nat_le 1 (length p)) _ few).0)

@@ -1,11 +1,12 @@
 -- What acceptance says of each step of a plan.
 use Rattle.std.specs.Prelude.{◌≡◌, ℕ, Bool, true, false, not, if◌then◌else◌, List, [], ◌∷◌, ◌++◌, length, Option, Some, None}
-use Rattle.std.proofs.Common.{refl}
+use Rattle.std.proofs.Common.{refl, sym, subst, append_assoc}
+use Rattle.std.proofs.lemmas.List.{append-nil}
 use Rattle.record_text.specs.declared.kinds.Kind.{Kind}
 use Rattle.plan_model.specs.declared.plan.What.{What}
 use Rattle.plan_model.specs.declared.step.Step.{Step}
 use Rattle.plan_model.specs.declared.source_types.SourceType.{SourceType}
-use Rattle.plan_model.specs.Acceptance.{Fault, are_few, fault_after, fault_of_step, fault_or, first_fault, is_narrow, knows_source, may_group, step_has_columns, step_has_kinds}
+use Rattle.plan_model.specs.Acceptance.{Accepts, Fault, are_few, fault_after, fault_of_step, fault_or, first_fault, is_narrow, knows_source, may_group, step_has_columns, step_has_kinds}
 use Rattle.plan_model.specs.Types.{columns, signs}
 use Rattle.plan_model.specs.Uses.{counts_of_step}
 
@@ -46,3 +47,16 @@ pub Passes-fault_after : (types : List SourceType) (before : List Step) (s : Ste
 Passes-fault_after types before s ss none =
     let parts = no_fault (length before) (fault_of_step types before s) (fault_after types (before ++ s ∷ []) ss) none in
     (Passes-first_fault types s _ _ _ parts.0, parts.1)
+
+-- ---- plans, step by step
+
+-- what one step more that passes its checks keeps holds of an accepted plan
+module _ (types : List SourceType) (Q : List Step → Type 0) (more : (p : List Step) (s : Step) → PassesAfter types p s → Q p → Q (p ++ s ∷ [])) where
+  holds_after : (p ss : List Step) → fault_after types p ss ≡ None → Q p → Q (p ++ ss)
+  holds_after p [] none q = subst Q (sym (append-nil p)) q
+  holds_after p (s ∷ ss) none q =
+      let parts = Passes-fault_after types p s ss none in
+      subst Q (append_assoc p (s ∷ []) ss) (holds_after (p ++ s ∷ []) ss parts.1 (more p s parts.0 q))
+
+  pub holds_accepted : (p : List Step) → Accepts p types → Q [] → Q p
+  holds_accepted p accepts start = holds_after [] p accepts start

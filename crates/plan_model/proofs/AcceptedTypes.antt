@@ -1,16 +1,13 @@
 -- In an accepted plan every step is typed.
-use Rattle.std.specs.Prelude.{◌≡◌, ℕ, Bool, true, false, if◌then◌else◌, nat_eq, List, [], ◌∷◌, ◌++◌, length, None}
-use Rattle.std.proofs.Common.{sym, subst, append_assoc}
-use Rattle.std.proofs.lemmas.List.{append-nil}
+use Rattle.std.specs.Prelude.{◌≡◌, ℕ, Bool, true, false, if◌then◌else◌, nat_eq, List, [], ◌∷◌, ◌++◌, length}
 use Rattle.record_text.specs.declared.kinds.Kind.{Kind}
 use Rattle.datasets.specs.Dataset.{Dataset, empty}
 use Rattle.plan_model.specs.declared.step.Step.{Step}
 use Rattle.plan_model.specs.declared.source_types.SourceType.{SourceType}
-use Rattle.plan_model.specs.Acceptance.{fault_after}
 use Rattle.plan_model.specs.Evaluation.{Family, eval_at, eval_step, evals}
 use Rattle.plan_model.specs.Laws.{AcceptedIsTyped}
 use Rattle.plan_model.specs.Types.{Keeps, columns, columns_at, columns_step, may_be_negative, sign_step, signs}
-use Rattle.plan_model.proofs.Accepted.{PassesAfter, Passes-fault_after}
+use Rattle.plan_model.proofs.Accepted.{PassesAfter, holds_accepted}
 use Rattle.plan_model.proofs.StepByStep.{slice_index_or-step_by_step}
 use Rattle.plan_model.proofs.TypedSteps.{IsTyped, IsTyped-empty, IsTyped-eval_step}
 
@@ -30,14 +27,7 @@ module _ (types : List SourceType) (F : Family) (keeps : Keeps types F) where
       rw (slice_index_or-step_by_step (columns_step types) p s [] i, slice_index_or-step_by_step (sign_step types) p s true i, slice_index_or-step_by_step (eval_step types F) p s empty i)
       (IsTyped-either (nat_eq i (length p)) _ _ _ _ _ _ new (h i))
 
-  -- steps more, none with a fault
-  TypedAt-append : (p ss : List Step) → fault_after types p ss ≡ None → ((i : ℕ) → TypedAt p i) → (i : ℕ) → TypedAt (p ++ ss) i
-  TypedAt-append p [] none h i = subst (λ q. TypedAt q i) (sym (append-nil p)) (h i)
-  TypedAt-append p (s ∷ ss) none h i =
-      let parts = Passes-fault_after types p s ss none in
-      subst (λ q. TypedAt q i) (append_assoc p (s ∷ []) ss) (TypedAt-append (p ++ s ∷ []) ss parts.1 (TypedAt-snoc p s parts.0 h) i)
-
 pub accepted_is_typed : AcceptedIsTyped
 accepted_is_typed p types F i accepts keeps =
-    let typed = TypedAt-append types F keeps [] p accepts (λ i. IsTyped-empty [] true) i in
+    let typed = holds_accepted types (λ q. (i : ℕ) → TypedAt types F keeps q i) (TypedAt-snoc types F keeps) p accepts (λ i. IsTyped-empty [] true) i in
     record { rows = typed.rows; sign = typed.sign }

@@ -2,6 +2,8 @@ pub mod Terms
 mod Columns
 mod Names
 pub mod TypedValues
+pub mod Plans
+pub mod Positions
 pub mod StepByStep
 pub mod Accepted
 pub mod Reducers
@@ -9,3 +11,4 @@ pub mod TypedSteps
 pub mod AcceptedTypes
 pub mod Extended
 pub mod AcceptedLater
+pub mod StepLaws

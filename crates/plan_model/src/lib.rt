@@ -12,7 +12,7 @@ mod source_types;
 mod step;
 
 pub use expr::{Expr, ExprFault};
-pub use laws::{law_typed, law_values};
+pub use laws::{law_evaluation, law_misfit, law_typed, law_uses, law_values};
 pub use lists::{Exprs, Items, Runs};
 pub use plan::{Plan, What};
 pub use record_text::Memory;

@@ -1,8 +1,10 @@
 //! Plans.
-ghost use Rattle.std.specs.Prelude.{◌≡◌, ◌<◌, ◌≤◌, IsTrue, length, slice_get};
+ghost use Rattle.std.specs.Prelude.{◌≡◌, ◌<◌, IfOk, IsTrue, length, slice_get};
 ghost use Rattle.plan_model.specs.Limits.{is_plan};
 
 use crate::step::Step;
+use record_text::Memory;
+use std::alloc::Global;
 use std::marker::Model;
 
 /// A plan, seen as its steps. It has 1 to 64 of them, each refers to earlier steps alone, and the last
@@ -51,6 +53,18 @@ impl Plan {
         ensures { slice_get self.now at ≡ Some result.now }
     {
         &self.steps[at]
+    }
+
+    /// An equal plan.
+    pub fn try_copy(&self, alloc: Global) -> Result<Plan, Memory>
+        ensures { IfOk result (λ copy. copy ≡ self.now) }
+    {
+        let mut steps = Vec::with_capacity(alloc, self.steps.len())?;
+        for step in self.steps.as_slice() {
+            let copy = step.try_copy(alloc)?;
+            steps.push(copy)?;
+        }
+        Ok(Plan { steps })
     }
 }
 

@@ -1,5 +1,5 @@
 //! The types of sources.
-ghost use Rattle.std.specs.Prelude.{◌≡◌, ◌<◌, ◌-◌, ◌++◌, [], ◌∷◌, false, true, length, slice_get, take, OnOk, OnErr};
+ghost use Rattle.std.specs.Prelude.{◌≡◌, ◌<◌, ◌-◌, ◌++◌, [], ◌∷◌, false, true, length, slice_get, take, IfOk, OnOk, OnErr};
 ghost use Rattle.plan_model.specs.Sources.{are_distinct, has_name};
 
 use record_text::{Kinds, Memory, Name};
@@ -71,6 +71,15 @@ impl SourceTypes {
     {
         self.types.push(source_type)?;
         Ok(())
+    }
+
+    /// Equal types.
+    pub fn try_copy(&self, alloc: Global) -> Result<SourceTypes, Memory>
+        ensures { IfOk result (λ copy. copy ≡ self.now) }
+    {
+        let mut types = Vec::with_capacity(alloc, self.types.len())?;
+        types.extend_from_slice(self.types.as_slice())?;
+        Ok(SourceTypes { types })
     }
 
     /// Takes the last type out.

@@ -1,5 +1,6 @@
 //! Steps of plans, and their parts.
-ghost use Rattle.std.specs.Prelude.{◌≡◌, IfOk};
+ghost use Rattle.std.specs.Prelude.{◌≡◌, IfOk, slice_get};
+ghost use Rattle.plan_model.specs.Inputs.{inputs};
 
 use crate::expr::Expr;
 use crate::lists::{Exprs, Items, Runs};
@@ -106,4 +107,88 @@ pub enum Step {
         key: Exprs,
         reduce: Reducer,
     },
+}
+
+impl Step {
+    /// The step that is the left input, or the only one; none for a source.
+    pub fn left(&self) -> Option<usize>
+        ensures { result ≡ slice_get (inputs self.now) 0 }
+    {
+        match self {
+            Step::Source { .. } => None,
+            Step::Filter { of, .. }
+            | Step::Select { of, .. }
+            | Step::Many { of, .. }
+            | Step::Shave { of, .. }
+            | Step::Group { of, .. } => Some(*of),
+            Step::Set { left, .. } | Step::Join { left, .. } => Some(*left),
+        }
+    }
+
+    /// The step that is the right input, where there are two.
+    pub fn right(&self) -> Option<usize>
+        ensures { result ≡ slice_get (inputs self.now) 1 }
+    {
+        match self {
+            Step::Set { right, .. } | Step::Join { right, .. } => Some(*right),
+            _ => None,
+        }
+    }
+
+    /// An equal step.
+    pub fn try_copy(&self, alloc: Global) -> Result<Step, Memory>
+        ensures { IfOk result (λ copy. copy ≡ self.now) }
+    {
+        match self {
+            Step::Source { name } => Ok(Step::Source { name: *name }),
+            Step::Filter { of, test } => {
+                let test = test.try_copy(alloc)?;
+                Ok(Step::Filter { of: *of, test })
+            }
+            Step::Select { of, row } => {
+                let row = row.try_copy(alloc)?;
+                Ok(Step::Select { of: *of, row })
+            }
+            Step::Many { of, over, items } => {
+                let items = items.try_copy(alloc)?;
+                Ok(Step::Many {
+                    of: *of,
+                    over: *over,
+                    items,
+                })
+            }
+            Step::Shave { of, runs } => {
+                let runs = runs.try_copy(alloc)?;
+                Ok(Step::Shave { of: *of, runs })
+            }
+            Step::Set { kind, left, right } => Ok(Step::Set {
+                kind: *kind,
+                left: *left,
+                right: *right,
+            }),
+            Step::Join {
+                left,
+                right,
+                left_key,
+                right_key,
+            } => {
+                let left_key = left_key.try_copy(alloc)?;
+                let right_key = right_key.try_copy(alloc)?;
+                Ok(Step::Join {
+                    left: *left,
+                    right: *right,
+                    left_key,
+                    right_key,
+                })
+            }
+            Step::Group { of, key, reduce } => {
+                let key = key.try_copy(alloc)?;
+                Ok(Step::Group {
+                    of: *of,
+                    key,
+                    reduce: *reduce,
+                })
+            }
+        }
+    }
 }

@@ -31,11 +31,11 @@ pub parity_is : term_of parity ≡ parity_term
 parity_is = term_of-Two 4 (Col 0) (Const (Int (pos 2))) ∙ ap₂ (two 4) (term_of-Col 0) (term_of-Const (Int (pos 2)))
 
 -- the value of a term on a row over whose kinds it has a kind
-abbrev value_of : Term → Row → Atom
+abbrev pub value_of : Term → Row → Atom
 value_of t x = unwrap_or (value_if t x) (Int (pos 0))
 
 -- the row of one value
-abbrev key : Term → Row → Row
+abbrev pub key : Term → Row → Row
 key t x = value_of t x ∷ []
 
 -- ---- Join

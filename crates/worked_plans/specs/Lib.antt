@@ -7,3 +7,4 @@ pub mod Sets
 pub mod Paths
 pub mod Items
 pub mod Accepted
+pub mod Misfits

@@ -8,6 +8,7 @@ ghost use Rattle.worked_plans.specs.Accepted.{ConcatFits, ExceptIsNotCounted, Jo
 ghost use Rattle.worked_plans.specs.Groups.{GroupWeights, GroupWeightsAfter};
 ghost use Rattle.worked_plans.specs.Items.{ManyWeights};
 ghost use Rattle.worked_plans.specs.Joins.{JoinUses, JoinWeights};
+ghost use Rattle.worked_plans.specs.Misfits.{GroupMisfit, JoinMisfit, ManyMisfit, SelectMisfit, ShaveMisfit};
 ghost use Rattle.worked_plans.specs.Paths.{PathUses, PathWeights, line, line_weights, one_way, one_way_weights, triangle, triangle_weights};
 ghost use Rattle.worked_plans.specs.Pieces.{ShaveWeights};
 ghost use Rattle.worked_plans.specs.Sets.{SetWeights};
@@ -61,4 +62,14 @@ pub fn law_acceptance()
 /// A weight that fits a concat of a source with itself, and one that doesn't.
 pub fn law_fits()
     ensures { ConcatFits }
+{}
+
+/// Plans that don't fit for one value on the way: what is left before a piece, a running sum, a product, half a
+/// gap, and the sum of both norms.
+pub fn law_misfits()
+    ensures shave { ShaveMisfit }
+    ensures select { SelectMisfit }
+    ensures many { ManyMisfit }
+    ensures group { GroupMisfit }
+    ensures join { JoinMisfit }
 {}
