@@ -4,3 +4,4 @@ pub mod OneRows
 pub mod PartEntries
 pub mod Takes
 mod MadeRows
+pub mod ListedRows

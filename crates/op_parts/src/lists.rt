@@ -37,12 +37,17 @@ pub fn push_row(row: &Row, weight: Frac, into: &mut Vec<Weighted>) -> Result<(),
     Ok(())
 }
 
-/// Appends copies of the rows of a list, with their weights.
+/// Appends copies of the rows of a list, with their weights. After a refusal the list is as before.
 pub fn push_rows(list: &[Weighted], into: &mut Vec<Weighted>) -> Result<(), Memory>
-    ensures { OnOk result (entries_of into.new.items ≡ entries_of into.old.items ++ entries_of list.now) }
+    ensures ok { OnOk result (entries_of into.new.items ≡ entries_of into.old.items ++ entries_of list.now) }
+    ensures err { OnErr result (into.new.items ≡ into.old.items) }
 {
+    let before = into.len();
     for entry in list {
-        push_row(&entry.row, entry.weight, into)?;
+        if let Err(fault) = push_row(&entry.row, entry.weight, into) {
+            into.truncate(before);
+            return Err(fault);
+        }
     }
     Ok(())
 }

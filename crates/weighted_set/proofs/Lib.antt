@@ -1,3 +1,4 @@
+pub mod TouchedRows
 pub mod Tables
 pub mod Sets
 pub mod ChangeLists

@@ -1,22 +1,18 @@
 -- What a store holds once the part of one key is changed.
-use Rattle.std.specs.Prelude.{◌≡◌, Bool, true, false, cond, ◌++◌, List, [], ◌∷◌, Option, None, refl, unwrap_or}
+use Rattle.std.specs.Prelude.{◌≡◌, Bool, true, false, cond, IfSome, [], Option, Some, None, refl, unwrap_or}
 use Rattle.std.specs.Map.{lookup}
 use Rattle.std.proofs.Common.{sym, ap, subst, ◌∙◌}
 use Rattle.datasets.specs.Dataset.{Dataset, empty}
-use Rattle.datasets.specs.Entries.{Row, has_row, same_row}
+use Rattle.datasets.specs.Entries.{Row, same_row}
 use Rattle.datasets.proofs.Rows.{same_row-equal, same_row-turned}
 use Rattle.weighted_set.specs.declared.held.View.{View}
 use Rattle.weighted_set.specs.declared.held.View.TheVariants.{Committed, Pending}
 use Rattle.weighted_set.specs.Held.{HeldDatasets, viewed}
-use Rattle.weighted_set.specs.Parts.{StoreParts, empty_part, part_at}
-use Rattle.weighted_set.proofs.Sets.{apart_from_more}
-
--- the key is found with o, and every other key with what it had
-abbrev pub FindsPart : Row → Option HeldDatasets → StoreParts → StoreParts → Type 0
-FindsPart key o old new = (k : Row) → lookup (same_row k) new ≡ cond (same_row key k) o (lookup (same_row k) old)
+use Rattle.weighted_set.specs.Parts.{IsSettledPart, StoreParts, committed_part, empty_part, part_at, pending_part}
+use Rattle.weighted_set.specs.Tables.{AllBut, FindsAt}
 
 -- a key that is absent is found with nothing
-pub absent-finds : (key : Row) (parts : StoreParts) → lookup (same_row key) parts ≡ None → FindsPart key None parts parts
+pub absent-finds : (key : Row) (parts : StoreParts) → lookup (same_row key) parts ≡ None → FindsAt key None parts parts
 absent-finds key parts absent k =
     elim (same_row key k) as (λ b. same_row key k ≡ b → lookup (same_row k) parts ≡ cond b None (lookup (same_row k) parts)) [
       | true ↦ λ same. subst (λ x. lookup (same_row x) parts ≡ None) (same_row-equal key k same) absent
@@ -27,7 +23,7 @@ either_part : (b : Bool) (o p : Option HeldDatasets) → unwrap_or (cond b o p) 
 either_part true o p = refl
 either_part false o p = refl
 
-module _ (key : Row) (o : Option HeldDatasets) (old new : StoreParts) (finds : FindsPart key o old new) where
+module _ (key : Row) (o : Option HeldDatasets) (old new : StoreParts) (finds : FindsAt key o old new) where
   part_at-finds : (k : Row) → part_at new k ≡ cond (same_row k key) (unwrap_or o empty_part) (part_at old k)
   part_at-finds k =
       ap (λ p. unwrap_or p empty_part) (finds k)
@@ -51,15 +47,13 @@ module _ (key : Row) (o : Option HeldDatasets) (old new : StoreParts) (finds : F
       same_either true A = refl
       same_either false A = refl
 
--- one key fewer may have a pending change, once its two datasets are one
-pub settled_key : (touched : List Row) (key : Row) (F G E D : Row → Dataset) → ((k : Row) → has_row (touched ++ key ∷ []) k ≡ false → F k ≡ G k)
-    → ((k : Row) → E k ≡ cond (same_row k key) (G k) (F k)) → ((k : Row) → D k ≡ G k) → (k : Row) → has_row touched k ≡ false → E k ≡ D k
-settled_key touched key F G E D before moves stays k n =
-    moves k
-    ∙ elim (same_row k key) as (λ b. same_row k key ≡ b → cond b (G k) (F k) ≡ D k) [
-      | true ↦ λ same. sym (stays k)
-      | false ↦ λ other. before k (apart_from_more touched key k n other) ∙ sym (stays k)
-    ] refl
+-- where no key is touched, nothing is pending
+same_found : (o : Option HeldDatasets) → IfSome o IsSettledPart → (unwrap_or o empty_part).pending ≡ (unwrap_or o empty_part).committed
+same_found None h = refl
+same_found (Some part) h = h.0
+
+pub nothing_pending : (parts : StoreParts) → AllBut IsSettledPart [] parts → (k : Row) → pending_part parts k ≡ committed_part parts k
+nothing_pending parts h k = same_found (lookup (same_row k) parts) (h k refl)
 
 -- ---- a part without rows
 pub entries-empty_part : (view : View) → (viewed view empty_part).entries ≡ []

@@ -18,7 +18,8 @@ use Rattle.datasets.proofs.Counts.{entries-dataset_of}
 use Rattle.datasets.proofs.Rows.{is_zero-other, other_if_not_is_zero, zero_if_is_zero}
 use Rattle.weighted_set.specs.Held.{AllInRange}
 use Rattle.weighted_set.specs.Sizes.{AreWeights}
-use Rattle.weighted_set.proofs.Tables.{WeighsAt, dataset_of-weighs}
+use Rattle.weighted_set.specs.Tables.{FindsAt}
+use Rattle.weighted_set.proofs.Tables.{dataset_of-weighs}
 use Rattle.weighted_set.proofs.Sets.{dataset_of-none, AllInRange-empty, AllInRange-set_at}
 
 all_kept : (es : Entries) → NoneZero es → filter (λ e. not (is_zero e.1)) es ≡ es
@@ -60,13 +61,13 @@ module _ (x : Row) (w : Ratio) (old new : Entries) (range : InRange w) (rising :
   range_after : dataset_of new ≡ set_at x w (dataset_of old) → AllInRange (dataset_of new)
   range_after e = subst AllInRange (sym e) (AllInRange-set_at x w (dataset_of old) range before.in_range)
 
-  pub removed_dataset : is_zero w ≡ true → WeighsAt x None old new → dataset_of new ≡ set_at x w (dataset_of old)
+  pub removed_dataset : is_zero w ≡ true → FindsAt x None old new → dataset_of new ≡ set_at x w (dataset_of old)
   removed_dataset z h = dataset_of-weighs x None old new h ∙ ap (λ v. set_at x v (dataset_of old)) (sym (zero_if_is_zero w z))
 
-  pub removed_are_weights : is_zero w ≡ true → WeighsAt x None old new → new ≡ remove_entry (same_row x) old → AreWeights new
+  pub removed_are_weights : is_zero w ≡ true → FindsAt x None old new → new ≡ remove_entry (same_row x) old → AreWeights new
   removed_are_weights z h e = record { rising = rising; none_zero = subst NoneZero (sym e) (NoneZero-removed (same_row x) old before.none_zero); in_range = range_after (removed_dataset z h) }
 
-  pub inserted_are_weights : is_zero w ≡ false → WeighsAt x (Some w) old new → new ≡ insert_entry row_cmp old x w → AreWeights new
+  pub inserted_are_weights : is_zero w ≡ false → FindsAt x (Some w) old new → new ≡ insert_entry row_cmp old x w → AreWeights new
   inserted_are_weights n h e = record { rising = rising; none_zero = subst NoneZero (sym e) (NoneZero-inserted x w old n before.none_zero); in_range = range_after (dataset_of-weighs x (Some w) old new h) }
 
 -- ---- sums that stop where one on the way is out of range

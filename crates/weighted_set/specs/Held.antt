@@ -1,13 +1,14 @@
 -- Rows that hold two weights, the committed and the pending one.
-use Rattle.std.specs.Prelude.{◌≡◌, ℕ, false, if◌then◌else◌, List, map, length, MatchOption, filter, not, Some, refl}
+use Rattle.std.specs.Prelude.{◌≡◌, ◌≢◌, ℕ, if◌then◌else◌, List, map, length, MatchOption, filter, not, Option, Some, None, refl}
 use Rattle.std.specs.Coded.{Coded, code_by, coded×}
 use Rattle.std.specs.Map.{lookup}
 use Rattle.std.specs.Ordering.{eq_by_cmp}
 use Rattle.ratios.specs.Range.{InRange}
-use Rattle.ratios.specs.Ratio.{Ratio, ratio_cmp}
+use Rattle.ratios.specs.Ratio.{Ratio, ratio_cmp, zero_ratio}
 use Rattle.datasets.specs.Code.{dataset_code}
 use Rattle.datasets.specs.Dataset.{Dataset, at, rows, dataset_of}
-use Rattle.datasets.specs.Entries.{Row, has_row, same_row}
+use Rattle.datasets.specs.Entries.{Row, is_zero, same_row}
+use Rattle.weighted_set.specs.Tables.{AllBut, FindsAt}
 use Rattle.weighted_set.specs.declared.held.Held.{Held}
 use Rattle.weighted_set.specs.declared.held.View.{View}
 use Rattle.weighted_set.specs.declared.held.View.TheVariants.{Committed, Pending}
@@ -49,17 +50,25 @@ abbrev pub viewed : View → HeldDatasets → Dataset
 viewed Committed h = h.committed
 viewed Pending h = h.pending
 
--- a row that is none of these has one weight in A and in B
-abbrev pub DifferOnlyAt : List Row → Dataset → Dataset → Type 0
-DifferOnlyAt touched A B = (x : Row) → has_row touched x ≡ false → at A x ≡ at B x
-
 -- every weight is in range
 abbrev pub AllInRange : Dataset → Type 0
 AllInRange A = (x : Row) → InRange (at A x)
 
 -- once put, the row x holds h, and every other row what it held
 abbrev pub PutsAt : Row → Held → HeldRows → HeldRows → Type 0
-PutsAt x h old new = (q : Row) → lookup (same_row q) new ≡ (if same_row x q then Some h else lookup (same_row q) old)
+PutsAt x h old new = FindsAt x (Some h) old new
+
+-- what is kept of a row whose two weights are w: nothing where w is 0
+abbrev pub settled_row : Ratio → Option Held
+settled_row w = if is_zero w then None else Some (record { committed = w; pending = w })
+
+-- once settled, both weights of the row x are w, and every other row holds what it held
+abbrev pub SettlesAt : Row → Ratio → HeldRows → HeldRows → Type 0
+SettlesAt x w old new = FindsAt x (settled_row w) old new
+
+-- a row that is kept with nothing pending has a weight other than 0
+abbrev pub IsSettledRow : Held → Type 0
+IsSettledRow h = (h.pending ≡ h.committed) × (h.committed ≢ zero_ratio)
 
 -- the rows that hold weights hold those of A and of B, and no other row differs between A and B
 abbrev pub HoldsStep : HeldRows → Dataset → Dataset → Type 0
@@ -69,9 +78,10 @@ HoldsStep es A B = (x : Row) → MatchOption (lookup (same_row x) es) (at B x �
 abbrev pub held_changes : HeldRows → List Change
 held_changes es = map (λ e. record { row = e.0; old = e.1.committed; new = e.1.pending }) (filter (λ e. not (eq_by_cmp ratio_cmp e.1.committed e.1.pending)) es)
 
--- what a set keeps: the touched rows, its length and the range of its weights
+-- what a set keeps: no other rows than the touched ones with a pending change or of weight 0, its length, and
+-- the range of its weights
 pub record IsSet (es : HeldRows) (touched : List Row) (len : ℕ) : Type 0 where
-  pub differ : DifferOnlyAt touched (committed_of es) (pending_of es)
+  pub settled : AllBut IsSettledRow touched es
   pub counted : len ≡ length (rows (committed_of es))
   pub committed_in_range : AllInRange (committed_of es)
   pub pending_in_range : AllInRange (pending_of es)

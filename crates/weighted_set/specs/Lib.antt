@@ -1,5 +1,6 @@
 pub mod Changes
 pub mod Adding
+pub mod Tables
 pub mod Held
 pub mod Parts
 pub mod Standing

@@ -1,9 +1,9 @@
 -- The parts of a dataset by key, stores of parts, and lists of weighted rows as datasets.
-use Rattle.std.specs.Prelude.{◌≡◌, false, if◌then◌else◌, List, unwrap_or, map}
+use Rattle.std.specs.Prelude.{◌≡◌, ◌≢◌, if◌then◌else◌, List, unwrap_or, map}
 use Rattle.std.specs.Map.{lookup}
 use Rattle.ratios.specs.Ratio.{Ratio, ratio_mul}
 use Rattle.datasets.specs.Dataset.{Dataset, empty, set_at, at, dataset_of}
-use Rattle.datasets.specs.Entries.{Row, has_row, same_row}
+use Rattle.datasets.specs.Entries.{Row, same_row}
 use Rattle.weighted_set.specs.declared.held.View.{View}
 use Rattle.weighted_set.specs.Held.{HeldDatasets, viewed}
 use Rattle.ratios.specs.Range.{InRange}
@@ -40,9 +40,9 @@ part_in view parts key = viewed view (part_at parts key)
 abbrev pub set_at_key : Row → Row → Ratio → (Row → Dataset) → Row → Dataset
 set_at_key key row w parts k = if same_row k key then set_at row w (parts k) else parts k
 
--- a key that is none of these has no pending change
-abbrev pub PendOnlyAt : List Row → StoreParts → Type 0
-PendOnlyAt touched parts = (key : Row) → has_row touched key ≡ false → committed_part parts key ≡ pending_part parts key
+-- a part that is kept with nothing pending has rows
+abbrev pub IsSettledPart : HeldDatasets → Type 0
+IsSettledPart part = (part.pending ≡ part.committed) × (part.committed ≢ empty)
 
 -- ---- the parts of a dataset
 

@@ -1,11 +1,11 @@
 //! Rows with a committed and a pending weight each.
 ghost use Rattle.std.specs.Prelude.{[], ◌≡◌, ◌+◌, ◌<◌, ◌≤◌, IfOk, OnErr, OnOk, length, slice_get};
 ghost use Rattle.std.specs.Map.{lookup};
-ghost use Rattle.datasets.specs.Dataset.{at, empty, rows, set_at};
+ghost use Rattle.datasets.specs.Dataset.{at, empty, rows};
 ghost use Rattle.datasets.specs.Entries.{is_zero as is_zero_ratio, row_count as row_count_of, same_row};
 ghost use Rattle.ratios.specs.Ratio.{zero_ratio};
 ghost use Rattle.weighted_set.specs.Changes.{IsChangeList, entries_of};
-ghost use Rattle.weighted_set.specs.Held.{PutsAt, committed_of, dataset_by, pending_of, weight_of};
+ghost use Rattle.weighted_set.specs.Held.{PutsAt, SettlesAt, committed_of, dataset_by, pending_of, weight_of};
 
 use crate::Memory;
 use crate::weighted::{Change, Weighted};
@@ -102,11 +102,10 @@ pub fn put(table: &mut BTreeMap<Row, Held>, row: &Row, held: Held) -> Result<(),
     Ok(())
 }
 
-// Makes `weight` both weights of a row, which is absent only where that is 0.
+// Makes `weight` both weights of a row, which is absent only where that is 0, and is taken out where it is 0.
 fn settle(table: &mut BTreeMap<Row, Held>, row: &Row, weight: Frac)
     requires { lookup (same_row row.now) table.old.entries ≡ None → weight ≡ zero_ratio }
-    ensures committed { committed_of table.new.entries ≡ set_at row.now weight (committed_of table.old.entries) }
-    ensures pending { pending_of table.new.entries ≡ set_at row.now weight (pending_of table.old.entries) }
+    ensures { SettlesAt row.now weight table.old.entries table.new.entries }
 {
     if is_zero(weight) {
         let _ = table.remove(row);
@@ -123,8 +122,7 @@ fn settle(table: &mut BTreeMap<Row, Held>, row: &Row, weight: Frac)
 pub fn commit_row(table: &mut BTreeMap<Row, Held>, row: &Row, len: usize) -> usize
     requires { len ≡ length (rows (committed_of table.old.entries)) }
     ensures counted { result ≡ length (rows (committed_of table.new.entries)) }
-    ensures committed { let pending = at (pending_of table.old.entries) row.now in committed_of table.new.entries ≡ set_at row.now pending (committed_of table.old.entries) }
-    ensures pending { pending_of table.new.entries ≡ pending_of table.old.entries }
+    ensures settled { SettlesAt row.now (at (pending_of table.old.entries) row.now) table.old.entries table.new.entries }
 {
     // Tells that a table has room to count its rows.
     let _room = table.len();
@@ -135,8 +133,7 @@ pub fn commit_row(table: &mut BTreeMap<Row, Held>, row: &Row, len: usize) -> usi
 
 /// Makes the committed weight of a row its pending one.
 pub fn abort_row(table: &mut BTreeMap<Row, Held>, row: &Row)
-    ensures committed { committed_of table.new.entries ≡ committed_of table.old.entries }
-    ensures pending { let committed = at (committed_of table.old.entries) row.now in pending_of table.new.entries ≡ set_at row.now committed (pending_of table.old.entries) }
+    ensures { SettlesAt row.now (at (committed_of table.old.entries) row.now) table.old.entries table.new.entries }
 {
     let held = held_at(table, row);
     settle(table, row, held.committed);

@@ -1,11 +1,12 @@
 //! Weights by key and row, which change in two steps.
-ghost use Rattle.std.specs.Prelude.{◌≡◌, ◌+◌, ◌≤◌, if◌then◌else◌, IsSome, OnErr, OnOk, length};
+ghost use Rattle.std.specs.Prelude.{◌≡◌, ◌+◌, ◌≤◌, if◌then◌else◌, [], IfSome, IsSome, OnErr, OnOk, length};
 ghost use Rattle.std.specs.Map.{lookup};
 ghost use Rattle.datasets.specs.Dataset.{at as weight_at, empty};
 ghost use Rattle.datasets.specs.Entries.{Row as RowValue, same_row};
 ghost use Rattle.weighted_set.specs.Changes.{entries_of};
 ghost use Rattle.weighted_set.specs.Held.{AllInRange};
-ghost use Rattle.weighted_set.specs.Parts.{committed_part, part_in, pending_part, set_at_key};
+ghost use Rattle.weighted_set.specs.Parts.{IsSettledPart, committed_part, part_in, pending_part, set_at_key};
+ghost use Rattle.weighted_set.specs.Tables.{OthersStay};
 
 use crate::Memory;
 use crate::held::View;
@@ -22,9 +23,9 @@ use steps::Steps;
 /// A store of weights other than 0 by key and row. The rows of one key are its part.
 #[derive(Drop)]
 pub struct PartStore {
-    // The part of each key that has rows or is touched.
+    // The part of each key that has rows, and of keys that are touched.
     parts: BTreeMap<Row, HeldSet>,
-    // The keys whose part may have a pending change.
+    // The keys that were put at since the last commit or abort.
     touched: Vec<Row>,
     alloc: Global,
 }
@@ -33,7 +34,8 @@ impl Model for PartStore {
     ghost use Rattle.std.specs.Coded.{coded×, coded_list};
     ghost use Rattle.record_text.specs.contracts.atom.Atom as atom;
     ghost use Rattle.weighted_set.specs.Held.{held_datasets_code};
-    ghost use Rattle.weighted_set.specs.Parts.{PendOnlyAt, StoreParts};
+    ghost use Rattle.weighted_set.specs.Parts.{IsSettledPart, StoreParts};
+    ghost use Rattle.weighted_set.specs.Tables.{AllBut};
 
     ghost Value = { StoreParts };
 
@@ -41,7 +43,7 @@ impl Model for PartStore {
 
     ghost view = { λ s. s.parts.entries };
 
-    ghost invariant = { λ s. PendOnlyAt s.touched.items s.parts.entries };
+    ghost invariant = { λ s. AllBut IsSettledPart s.touched.items s.parts.entries };
 }
 
 impl PartStore {
@@ -58,7 +60,7 @@ impl PartStore {
     }
 
     /// Puts a key's rows and weights in a list, in row order, in place of what is there. It takes one tick for
-    /// each of them.
+    /// each of them. After a refusal the list is empty.
     pub fn read_part<L: Ledger>(
         &self,
         key: &Row,
@@ -67,6 +69,7 @@ impl PartStore {
         steps: &mut Steps<L>,
     ) -> Result<(), Memory>
         ensures entries { OnOk result (entries_of into.new.items ≡ (part_in view self.now key.now).entries) }
+        ensures err { OnErr result (into.new.items ≡ []) }
         ensures ticks { OnOk result (steps.new ≡ steps.old + length (part_in view self.now key.now).entries) }
         ensures at_most { steps.new ≤ steps.old + length (part_in view self.now key.now).entries }
     {
@@ -121,7 +124,7 @@ impl PartStore {
         put_in_part(&mut self.parts, key, row, weight)
     }
 
-    /// Makes the pending weights the committed ones.
+    /// Makes the pending weights the committed ones, and gives back the memory of the list of touched keys.
     pub fn commit(&mut self)
         ensures committed { (k : RowValue) → committed_part self.new k ≡ pending_part self.old k }
         ensures pending { (k : RowValue) → pending_part self.new k ≡ pending_part self.old k }
@@ -130,9 +133,10 @@ impl PartStore {
             commit_part(&mut self.parts, &key);
             drop_empty(&mut self.parts, &key);
         }
+        self.touched = Vec::new(self.alloc);
     }
 
-    /// Makes the committed weights the pending ones.
+    /// Makes the committed weights the pending ones, and gives back the memory of the list of touched keys.
     pub fn abort(&mut self)
         ensures committed { (k : RowValue) → committed_part self.new k ≡ committed_part self.old k }
         ensures pending { (k : RowValue) → pending_part self.new k ≡ committed_part self.old k }
@@ -141,6 +145,7 @@ impl PartStore {
             abort_part(&mut self.parts, &key);
             drop_empty(&mut self.parts, &key);
         }
+        self.touched = Vec::new(self.alloc);
     }
 }
 
@@ -149,6 +154,7 @@ fn add_key(alloc: Global, parts: &mut BTreeMap<Row, HeldSet>, key: &Row) -> Resu
     ensures committed { (k : RowValue) → committed_part parts.new.entries k ≡ committed_part parts.old.entries k }
     ensures pending { (k : RowValue) → pending_part parts.new.entries k ≡ pending_part parts.old.entries k }
     ensures has { OnOk result (IsSome (lookup (same_row key.now) parts.new.entries)) }
+    ensures others { OthersStay key.now parts.old.entries parts.new.entries }
 {
     if parts.contains_key(key) {
         return Ok(());
@@ -169,6 +175,7 @@ fn put_in_part(
     ensures committed { (k : RowValue) → committed_part parts.new.entries k ≡ committed_part parts.old.entries k }
     ensures ok { OnOk result ((k : RowValue) → pending_part parts.new.entries k ≡ set_at_key key.now row.now weight (pending_part parts.old.entries) k) }
     ensures err { OnErr result ((k : RowValue) → pending_part parts.new.entries k ≡ pending_part parts.old.entries k) }
+    ensures others { OthersStay key.now parts.old.entries parts.new.entries }
 {
     match parts.get_mut(key) {
         Some(part) => part.put_pending(row, weight),
@@ -180,6 +187,7 @@ fn put_in_part(
 fn commit_part(parts: &mut BTreeMap<Row, HeldSet>, key: &Row)
     ensures committed { (k : RowValue) → committed_part parts.new.entries k ≡ (if same_row k key.now then pending_part parts.old.entries k else committed_part parts.old.entries k) }
     ensures pending { (k : RowValue) → pending_part parts.new.entries k ≡ pending_part parts.old.entries k }
+    ensures others { OthersStay key.now parts.old.entries parts.new.entries }
 {
     if let Some(part) = parts.get_mut(key) {
         part.commit();
@@ -190,21 +198,25 @@ fn commit_part(parts: &mut BTreeMap<Row, HeldSet>, key: &Row)
 fn abort_part(parts: &mut BTreeMap<Row, HeldSet>, key: &Row)
     ensures committed { (k : RowValue) → committed_part parts.new.entries k ≡ committed_part parts.old.entries k }
     ensures pending { (k : RowValue) → pending_part parts.new.entries k ≡ (if same_row k key.now then committed_part parts.old.entries k else pending_part parts.old.entries k) }
+    ensures others { OthersStay key.now parts.old.entries parts.new.entries }
 {
     if let Some(part) = parts.get_mut(key) {
         part.abort();
     }
 }
 
-// Takes a part without rows out.
+// Takes a part without rows, of which nothing is pending, out.
 fn drop_empty(parts: &mut BTreeMap<Row, HeldSet>, key: &Row)
+    requires { pending_part parts.old.entries key.now ≡ committed_part parts.old.entries key.now }
     ensures committed { (k : RowValue) → committed_part parts.new.entries k ≡ committed_part parts.old.entries k }
     ensures pending { (k : RowValue) → pending_part parts.new.entries k ≡ pending_part parts.old.entries k }
+    ensures others { OthersStay key.now parts.old.entries parts.new.entries }
+    ensures settled { IfSome (lookup (same_row key.now) parts.new.entries) IsSettledPart }
 {
     let Some(part) = parts.get(key) else {
         return;
     };
-    if part.is_empty() {
+    if part.len() == 0 {
         let _ = parts.remove(key);
     }
 }

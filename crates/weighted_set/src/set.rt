@@ -1,5 +1,5 @@
 //! A set of rows with weights, which changes in two steps.
-ghost use Rattle.std.specs.Prelude.{◌≡◌, ◌+◌, ◌<◌, ◌≤◌, IfErr, IfOk, OnErr, OnOk, length, slice_get, true};
+ghost use Rattle.std.specs.Prelude.{◌≡◌, ◌+◌, ◌<◌, ◌≤◌, [], IfErr, IfOk, OnErr, OnOk, length, slice_get};
 ghost use Rattle.datasets.specs.Dataset.{at as weight_at, empty, rows, set_at};
 ghost use Rattle.weighted_set.specs.Adding.{AreChangesOfAdding, IsAddFault};
 ghost use Rattle.weighted_set.specs.Changes.{AreChangesOf, IsChangeList, applied, entries_of};
@@ -23,9 +23,9 @@ use steps::Steps;
 /// is prepared first, and then committed or aborted.
 #[derive(Drop)]
 pub struct HeldSet {
-    // Each row that has a committed or a pending weight other than 0, or is touched.
+    // Each row that has a weight other than 0, and rows that are touched.
     table: BTreeMap<Row, Held>,
-    // The rows whose pending weight may differ from the committed one.
+    // The rows that were put since the last commit or abort.
     touched: Vec<Row>,
     // How many rows have a committed weight other than 0.
     len: usize,
@@ -169,7 +169,7 @@ impl HeldSet {
     }
 
     /// Puts the rows and weights of a view in a list, in row order, in place of what is there. It takes one tick
-    /// for each of them.
+    /// for each of them. After a refusal the list is empty.
     pub(crate) fn read<L: Ledger>(
         &self,
         view: View,
@@ -177,22 +177,21 @@ impl HeldSet {
         steps: &mut Steps<L>,
     ) -> Result<(), Memory>
         ensures entries { OnOk result (entries_of into.new.items ≡ (viewed view self.now).entries) }
+        ensures err { OnErr result (into.new.items ≡ []) }
         ensures ticks { OnOk result (steps.new ≡ steps.old + length (viewed view self.now).entries) }
         ensures at_most { steps.new ≤ steps.old + length (viewed view self.now).entries }
     {
         into.clear();
-        read_rows(&self.table, view, into, steps)
+        match read_rows(&self.table, view, into, steps) {
+            Ok(()) => Ok(()),
+            Err(fault) => {
+                into.clear();
+                Err(fault)
+            }
+        }
     }
 
-    /// Whether no row is kept; then neither view has one.
-    pub(crate) fn is_empty(&self) -> bool
-        ensures committed { result ≡ true → self.now.committed ≡ empty }
-        ensures pending { result ≡ true → self.now.pending ≡ empty }
-    {
-        self.table.is_empty()
-    }
-
-    /// Makes the pending weights the committed ones.
+    /// Makes the pending weights the committed ones, and gives back the memory of the list of touched rows.
     pub fn commit(&mut self)
         ensures committed { self.new.committed ≡ self.old.pending }
         ensures pending { self.new.pending ≡ self.old.pending }
@@ -200,9 +199,10 @@ impl HeldSet {
         while let Some(row) = self.touched.pop() {
             self.len = commit_row(&mut self.table, &row, self.len);
         }
+        self.touched = Vec::new(self.alloc);
     }
 
-    /// Makes the committed weights the pending ones.
+    /// Makes the committed weights the pending ones, and gives back the memory of the list of touched rows.
     pub fn abort(&mut self)
         ensures committed { self.new.committed ≡ self.old.committed }
         ensures pending { self.new.pending ≡ self.old.committed }
@@ -210,5 +210,6 @@ impl HeldSet {
         while let Some(row) = self.touched.pop() {
             abort_row(&mut self.table, &row);
         }
+        self.touched = Vec::new(self.alloc);
     }
 }

@@ -1,9 +1,9 @@
-use Rattle.std.proofs.Common.{length, ap, ◌∙◌, arith}
-use Rattle.datasets.specs.Dataset.{rows, set_at}
+use Rattle.std.proofs.Common.{length, ap, subst, ◌∙◌, arith}
+use Rattle.datasets.specs.Dataset.{rows}
 use Rattle.datasets.specs.Entries.{row_count}
-use Rattle.datasets.proofs.Counts.{set_at-same, length-set_at}
-use Rattle.weighted_set.specs.Held.{committed_of, pending_of}
-use Rattle.weighted_set.proofs.Tables.{at-dataset_by, weight_found, length-dataset_by}
+use Rattle.datasets.proofs.Counts.{length-set_at}
+use Rattle.weighted_set.specs.Held.{SettlesAt, committed_of}
+use Rattle.weighted_set.proofs.Tables.{at-dataset_by, committed_of-settles, weight_found, length-dataset_by}
 use Rattle.weighted_set.proofs.held.commit_row.Goals as goal
 
 pub settle-requires : goal.settle-requires
@@ -26,10 +26,9 @@ returns-clause-counted c =
     let x = c.args.row.now in
     let step = length-set_at x c.held_at-held.result.pending A in
     let before = ap row_count c.held_at-held.ensures.committed in
-    let after = ap (λ B. length (rows B)) c.settle.ensures.committed in
+    let after = ap (λ B. length (rows B)) (committed_of-settles x c.held_at-held.result.pending c.args.table.now.entries c.settle.new.table.entries c.settle.ensures) in
     omega (arith, c.row_count.ensures.value, c.row_count-2.ensures.value)
 
-pub returns-clause-pending : goal.returns-clause-pending
-returns-clause-pending c =
-    let B = pending_of c.args.table.now.entries in
-    c.settle.ensures.pending ∙ ap (λ w. set_at c.args.row.now w B) c.held_at-held.ensures.pending ∙ set_at-same c.args.row.now B
+pub returns-clause-settled : goal.returns-clause-settled
+returns-clause-settled c =
+    subst (λ w. SettlesAt c.args.row.now w c.args.table.now.entries c.settle.new.table.entries) c.held_at-held.ensures.pending c.settle.ensures

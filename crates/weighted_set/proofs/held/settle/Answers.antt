@@ -1,43 +1,25 @@
-use Rattle.std.proofs.Common.{ap, sym, subst, ◌∙◌, refl, Some, None}
+use Rattle.std.proofs.Common.{ap, sym, subst, ◌∙◌, cond, refl, Some, None}
 use Rattle.std.specs.Prelude.{IsSome}
 use Rattle.std.specs.Option.{option_copied_mut}
-use Rattle.datasets.specs.Dataset.{set_at}
-use Rattle.datasets.proofs.Rows.{zero_if_is_zero, other_if_not_is_zero}
+use Rattle.datasets.proofs.Rows.{other_if_not_is_zero}
 use Rattle.weighted_set.specs.declared.held.Held.{Held}
-use Rattle.weighted_set.specs.Held.{committed_of, pending_of}
-use Rattle.weighted_set.proofs.Tables.{dataset_by-finds}
+use Rattle.weighted_set.specs.Tables.{FindsAt}
 use Rattle.weighted_set.proofs.held.settle.Goals as goal
 
-pub returns-then-is_zero-clause-committed : goal.returns-then-is_zero-clause-committed
-returns-then-is_zero-clause-committed c =
-    let es = c.args.table.now.entries in
-    dataset_by-finds (λ h. h.committed) c.args.row.now None es c.remove.new.self.entries c.remove.ensures.updates.0
-    ∙ ap (λ w. set_at c.args.row.now w (committed_of es)) (sym (zero_if_is_zero c.args.weight (sym c.if-is_zero.ensures)))
-
-pub returns-then-is_zero-clause-pending : goal.returns-then-is_zero-clause-pending
-returns-then-is_zero-clause-pending c =
-    let es = c.args.table.now.entries in
-    dataset_by-finds (λ h. h.pending) c.args.row.now None es c.remove.new.self.entries c.remove.ensures.updates.0
-    ∙ ap (λ w. set_at c.args.row.now w (pending_of es)) (sym (zero_if_is_zero c.args.weight (sym c.if-is_zero.ensures)))
-
-pub returns-in-Some-clause-committed : goal.returns-in-Some-clause-committed
-returns-in-Some-clause-committed c =
+pub returns-then-is_zero : goal.returns-then-is_zero
+returns-then-is_zero c =
     let w : Held = record { committed = c.args.weight; pending = c.args.weight } in
-    let updates = (c.get_mut.follows.holds w).3 (subst IsSome c.in-Some.ensures.value refl) in
-    dataset_by-finds (λ h. h.committed) c.args.row.now (Some w) c.args.table.now.entries (c.get_mut.follows.lender w).entries updates.0
+    subst (λ o. FindsAt c.args.row.now o c.args.table.now.entries c.remove.new.self.entries) (ap (λ b. cond b None (Some w)) c.if-is_zero.ensures) c.remove.ensures.updates.0
 
-pub returns-in-Some-clause-pending : goal.returns-in-Some-clause-pending
-returns-in-Some-clause-pending c =
+pub returns-in-Some : goal.returns-in-Some
+returns-in-Some c =
     let w : Held = record { committed = c.args.weight; pending = c.args.weight } in
+    let old = c.args.table.now.entries in
+    let new = (c.get_mut.follows.lender w).entries in
     let updates = (c.get_mut.follows.holds w).3 (subst IsSome c.in-Some.ensures.value refl) in
-    dataset_by-finds (λ h. h.pending) c.args.row.now (Some w) c.args.table.now.entries (c.get_mut.follows.lender w).entries updates.0
+    subst (λ o. FindsAt c.args.row.now o old new) (ap (λ b. cond b None (Some w)) c.if-is_zero.ensures) updates.0
 
-pub returns-in_default-clause-committed : goal.returns-in_default-clause-committed
-returns-in_default-clause-committed c =
-    let absent = ap option_copied_mut (sym c.in_default.is) ∙ c.get_mut.ensures.value in
-    absurd (other_if_not_is_zero c.args.weight (sym c.if-is_zero.ensures) (c.requires (sym absent)))
-
-pub returns-in_default-clause-pending : goal.returns-in_default-clause-pending
-returns-in_default-clause-pending c =
+pub returns-in_default : goal.returns-in_default
+returns-in_default c =
     let absent = ap option_copied_mut (sym c.in_default.is) ∙ c.get_mut.ensures.value in
     absurd (other_if_not_is_zero c.args.weight (sym c.if-is_zero.ensures) (c.requires (sym absent)))

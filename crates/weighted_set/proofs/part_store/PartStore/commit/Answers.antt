@@ -1,22 +1,29 @@
-use Rattle.std.proofs.Common.{◌≡◌, ◌∙◌, [], ap, subst, sym, arith}
+use Rattle.std.proofs.Common.{◌≡◌, ◌∙◌, [], ap, cond, subst, sym, arith}
 use Rattle.std.proofs.lemmas.Grind.{common_steps}
-use Rattle.datasets.specs.Entries.{has_row}
-use Rattle.weighted_set.specs.Parts.{PendOnlyAt, committed_part, pending_part}
-use Rattle.weighted_set.proofs.PartStores.{settled_key}
+use Rattle.datasets.proofs.Rows.{same_row-itself}
+use Rattle.weighted_set.specs.Parts.{IsSettledPart, committed_part, pending_part}
+use Rattle.weighted_set.specs.Tables.{AllBut}
+use Rattle.weighted_set.proofs.PartStores.{nothing_pending}
+use Rattle.weighted_set.proofs.TouchedRows.{all_but_less}
 use Rattle.weighted_set.proofs.part_store.PartStore.commit.Goals as goal
+
+pub drop_empty-requires : goal.drop_empty-requires
+drop_empty-requires c =
+    let old = c.loop-key.self-inside.parts.entries in
+    let key = c.in-Some.key in
+    c.commit_part.ensures.pending key ∙ sym (c.commit_part.ensures.committed key ∙ ap (λ b. cond b (pending_part old key) (committed_part old key)) (same_row-itself key))
 
 pub loop-key-preserved : goal.loop-key-preserved
 loop-key-preserved c =
     let old = c.loop-key.self-inside.parts.entries in
-    let mid = c.commit_part.new.parts.entries in
-    let touched = subst (λ ts. PendOnlyAt ts old) c.in-Some.ensures.items c.loop-key.invariant.touched in
-    let settled = settled_key c.pop.new.self.items c.in-Some.key (committed_part old) (pending_part old) (committed_part mid) (pending_part mid) touched c.commit_part.ensures.committed c.commit_part.ensures.pending in
+    let before = subst (λ ts. AllBut IsSettledPart ts old) c.in-Some.ensures.items c.loop-key.invariant.settled in
     record {
-      touched = λ k n. c.drop_empty.ensures.committed k ∙ settled k n ∙ sym (c.drop_empty.ensures.pending k);
+      settled = all_but_less IsSettledPart c.pop.new.self.items c.in-Some.key old c.drop_empty.new.parts.entries (λ y n. c.drop_empty.ensures.others y n ∙ c.commit_part.ensures.others y n) before c.drop_empty.ensures.settled;
       pending = λ k. c.drop_empty.ensures.pending k ∙ c.commit_part.ensures.pending k ∙ c.loop-key.invariant.pending k;
     }
 
 pub returns-clause-committed : goal.returns-clause-committed
 returns-clause-committed c k =
+    let es = c.loop-key.self-inside.parts.entries in
     let none : c.loop-key.self-inside.touched.items ≡ [] = grind (arith, common_steps) in
-    c.loop-key.invariant.touched k (ap (λ ts. has_row ts k) none) ∙ c.loop-key.invariant.pending k
+    sym (nothing_pending es (subst (λ ts. AllBut IsSettledPart ts es) none c.loop-key.invariant.settled) k) ∙ c.loop-key.invariant.pending k

@@ -1,12 +1,13 @@
 use Rattle.std.proofs.Common.{◌≡◌}
 use Rattle.std.specs.Vec.{vec_len}
 use Rattle.datasets.specs.Entries.{Row}
-use Rattle.weighted_set.specs.Parts.{PendOnlyAt, pending_part}
+use Rattle.weighted_set.specs.Parts.{IsSettledPart, pending_part}
+use Rattle.weighted_set.specs.Tables.{AllBut}
 use Rattle.weighted_set.proofs.part_store.PartStore.commit.Given as goal
 
 abbrev pub invariant-loop-key : goal.invariant-loop-key
 invariant-loop-key l = record {
-  touched : PendOnlyAt l.self-inside.touched.items l.self-inside.parts.entries;
+  settled : AllBut IsSettledPart l.self-inside.touched.items l.self-inside.parts.entries;
   pending : (k : Row) → pending_part l.self-inside.parts.entries k ≡ pending_part l.fn.self k;
 }
 

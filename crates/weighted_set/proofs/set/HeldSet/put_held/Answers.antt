@@ -1,16 +1,9 @@
 use Rattle.std.proofs.Common.{◌≡◌, ◌++◌, ◌∷◌, [], ap, sym, ◌∙◌, subst, Some}
 use Rattle.datasets.specs.Dataset.{at, set_at}
-use Rattle.datasets.proofs.Counts.{set_at-same}
-use Rattle.weighted_set.specs.declared.held.Held.{Held}
-use Rattle.weighted_set.specs.Held.{HeldRows, PutsAt, committed_of, IsSet}
+use Rattle.weighted_set.specs.Held.{IsSet}
 use Rattle.weighted_set.proofs.Tables.{dataset_by-finds}
-use Rattle.weighted_set.proofs.Sets.{put_is_set, noted_is_set}
+use Rattle.weighted_set.proofs.Sets.{committed_stays, noted_is_set, put_is_set}
 use Rattle.weighted_set.proofs.set.HeldSet.put_held.Goals as goal
-
--- what is put is the committed weight, so that the committed weights stay
-committed_stays : (es new : HeldRows) (x : _) (h : Held) → PutsAt x h es new → h.committed ≡ at (committed_of es) x → committed_of new ≡ committed_of es
-committed_stays es new x h p e =
-    dataset_by-finds (λ h. h.committed) x (Some h) es new p ∙ ap (λ w. set_at x w (committed_of es)) e ∙ set_at-same x (committed_of es)
 
 pub invariant_of-self-in_err-put : goal.invariant_of-self-in_err-put
 invariant_of-self-in_err-put c =
@@ -39,8 +32,6 @@ invariant_of-self-2 c =
     let new = c.put.new.table.entries in
     let same = ap (λ v. v.committed) c.self.view_is in
     let e : c.push.new.self.items ≡ old.touched.items ++ x ∷ [] = c.in_ok-push.ensures.items ∙ ap (λ r. old.touched.items ++ r ∷ []) c.in_ok-note.ensures in
-    let put = put_is_set old.table.entries new old.touched.items x old.len c.args.held.pending c.self.invariant
-    (committed_stays old.table.entries new x c.args.held c.in_ok-put.ensures.ok (c.requires ∙ ap (λ A. at A x) (sym same)))
-    (dataset_by-finds (λ h. h.pending) x (Some c.args.held) old.table.entries new c.in_ok-put.ensures.ok)
-    c.numer-numerator.ensures.in_range in
+    let put = put_is_set old.table.entries new old.touched.items x old.len c.args.held c.self.invariant c.in_ok-put.ensures.ok
+    (c.requires ∙ ap (λ A. at A x) (sym same)) c.numer-numerator.ensures.in_range in
     subst (λ ts. IsSet new ts old.len) (sym e) put
