@@ -9,8 +9,8 @@ use Rattle.std.proofs.lemmas.Option.{option_and_then_some, slice_get-get_or}
 use Rattle.serde_json.specs.Data.{Data, Members}
 use Rattle.serde_json.specs.Find.{get, as_object, as_str, as_number, as_u64, as_i64}
 use Rattle.record_text.specs.declared.atom.Atom.TheVariants.{Int, Text}
-use Rattle.prim_table.specs.Primitives.{of_int, of_ints, of_three_ints, unary, binary, ternary}
-use Rattle.prim_table.specs.Tables.{found, place_of, names1, names2, names3, args1, args2, args3, unary_args, binary_args, ternary_args}
+use Rattle.prim_table.specs.Primitives.{Primitive, of_int, unary, binary, ternary}
+use Rattle.prim_table.specs.Tables.{found, index_of, names1, names2, names3, args1, args2, args3, args_at}
 use Rattle.prim_table.specs.declared.tables.PrimId.{PrimId}
 use Rattle.prim_table.specs.declared.tables.PrimId.TheVariants as prim
 use Rattle.expr_text.specs.Fields.{has_only}
@@ -28,8 +28,12 @@ is_some-within : {X Y : Type 0} (f : X → Y) (xs : List X) (at : ℕ) (d : X) �
     is_some (option_map f (slice_get xs at)) ≡ true
 is_some-within f xs at d h = rw (slice_get-get_or xs at d h) refl
 
-place-below : (names : List (List ℕ)) (name : List ℕ) (at : ℕ) → place_of names name ≡ Some at → at < length names
-place-below names name at is = (position-Some (λ other. pointwise nat_eq other name) names at [] is).0
+-- a primitive of a table has arguments
+has_args : (table : List Primitive) (at : ℕ) → at < length table → is_some (args_at table at) ≡ true
+has_args table at h = is_some-within (λ p. p.args) table at (of_int [] (λ x. x)) h
+
+index-below : (names : List (List ℕ)) (name : List ℕ) (at : ℕ) → index_of names name ≡ Some at → at < length names
+index-below names name at is = (position-Some (λ other. pointwise nat_eq other name) names at [] is).0
 
 -- what is found in the first table that has it is placed where each place in a table is
 placed-first : (a b c : Option ℕ) (p : PrimId) → ((at : ℕ) → a ≡ Some at → IsPlaced (prim.One at)) →
@@ -42,10 +46,10 @@ placed-first None None None p one two three e = cc
 
 placed-found : (name : List ℕ) (p : PrimId) → found name ≡ Some p → IsPlaced p
 placed-found name p is =
-    placed-first (place_of names1 name) (place_of names2 name) (place_of names3 name) p
-    (λ at place. is_some-within unary_args unary at (of_int (λ x. x)) (place-below names1 name at place))
-    (λ at place. is_some-within binary_args binary at (of_ints (λ x y. x)) (place-below names2 name at place))
-    (λ at place. is_some-within ternary_args ternary at (of_three_ints (λ x y z. x)) (place-below names3 name at place)) is
+    placed-first (index_of names1 name) (index_of names2 name) (index_of names3 name) p
+    (λ at found_at. has_args unary at (index-below names1 name at found_at))
+    (λ at found_at. has_args binary at (index-below names2 name at found_at))
+    (λ at found_at. has_args ternary at (index-below names3 name at found_at)) is
 
 -- ---- nodes
 

@@ -1,5 +1,6 @@
 pub mod Terms
 mod Columns
+mod TypedCalls
 mod Names
 pub mod TypedValues
 pub mod Plans

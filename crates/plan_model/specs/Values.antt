@@ -2,11 +2,9 @@
 use Rattle.std.specs.Prelude.{ℕ, Bool, ◌&&◌, true, nat_lt, if◌then◌else◌, is_some, List, [], ◌∷◌, length, slice_get, Option, Some, None, option_and_then, Result, Err, ok_or}
 use Rattle.record_text.specs.declared.atom.Atom.{Atom}
 use Rattle.record_text.specs.declared.kinds.Kind.{Kind}
-use Rattle.record_text.specs.declared.kinds.Kind.TheVariants.{Int}
 use Rattle.record_text.specs.KindLists.{kind_of, kinds_eq}
 use Rattle.datasets.specs.Entries.{Row}
-use Rattle.prim_table.specs.Primitives.{prim1, prim2, prim3}
-use Rattle.prim_table.specs.Tables.{args1, args2, args3, result3}
+use Rattle.prim_table.specs.Tables.{args1, args2, args3, prim1, prim2, prim3, result1, result2, result3}
 use Rattle.plan_model.specs.declared.expr.Expr.{Expr, fold-Expr}
 use Rattle.plan_model.specs.declared.expr.Expr.TheOpen.{Expr-F}
 use Rattle.plan_model.specs.declared.expr.ExprFault.{ExprFault}
@@ -47,21 +45,19 @@ value_if (three p a b c) x =
 
 -- ---- kinds
 
--- the kind that a primitive answers, where its arguments have the kinds that it takes
-abbrev pub called : Kind → List Kind → List Kind → Option Kind
-called result args kinds = if kinds_eq args kinds then Some result else None
+-- the kind of what a primitive answers, from the kinds of its result and of its arguments, where these are the kinds
+-- that it is called with
+abbrev pub called : Option Kind → Option (List Kind) → List Kind → Option Kind
+called result args kinds = option_and_then (λ k. option_and_then (λ ks. if kinds_eq ks kinds then Some k else None) args) result
 
--- the kind over rows of these columns: that of the column or of the constant, or the answer's kind where
--- each argument has the kind that the primitive takes
+-- the kind over rows of these columns: that of the column or of the constant, or of what a primitive answers
 abbrev pub kind_in : List Kind → Term → Option Kind
 kind_in cols (col c) = slice_get cols c
 kind_in cols (const a) = Some (kind_of a)
-kind_in cols (one p a) = option_and_then (λ args. option_and_then (λ i. called Int args (i ∷ [])) (kind_in cols a)) (args1 p)
-kind_in cols (two p a b) =
-    option_and_then (λ args. option_and_then (λ i. option_and_then (λ j. called Int args (i ∷ j ∷ [])) (kind_in cols b)) (kind_in cols a)) (args2 p)
+kind_in cols (one p a) = option_and_then (λ i. called (result1 p) (args1 p) (i ∷ [])) (kind_in cols a)
+kind_in cols (two p a b) = option_and_then (λ i. option_and_then (λ j. called (result2 p) (args2 p) (i ∷ j ∷ [])) (kind_in cols b)) (kind_in cols a)
 kind_in cols (three p a b c) =
-    option_and_then (λ result. option_and_then (λ args. option_and_then (λ i. option_and_then (λ j. option_and_then (λ k.
-    called result args (i ∷ j ∷ k ∷ [])) (kind_in cols c)) (kind_in cols b)) (kind_in cols a)) (args3 p)) (result3 p)
+    option_and_then (λ i. option_and_then (λ j. option_and_then (λ k. called (result3 p) (args3 p) (i ∷ j ∷ k ∷ [])) (kind_in cols c)) (kind_in cols b)) (kind_in cols a)
 
 -- every column is below the width
 abbrev pub has_columns : ℕ → Term → Bool

@@ -1,12 +1,14 @@
--- What each primitive answers.
-use Rattle.std.specs.Prelude.{ℕ, Bool, ◌&&◌, ◌||◌, not, nat_eq, if◌then◌else◌, ℤ, pos, negsuc, ◌+ℤ◌, ◌-ℤ◌, ◌*ℤ◌, neg_ℤ, unsigned_abs, int_lt, int_le, List, [], ◌∷◌, length, take, drop, slice_get, Option, Some, None}
+-- What a primitive is, and the tables of the primitives.
+use Rattle.std.specs.Prelude.{ℕ, Bool, ◌&&◌, ◌||◌, not, nat_eq, if◌then◌else◌, ℤ, pos, negsuc, ◌+ℤ◌, ◌-ℤ◌, ◌*ℤ◌, neg_ℤ, unsigned_abs, int_lt, int_le, codes, List, [], ◌∷◌, length, take, drop, Option, Some, None, option_and_then}
 use Rattle.std.specs.Int.{w64, saturate_signed, int_signum, int_min, int_max, int_div_euclid, int_rem_euclid}
 use Rattle.std.specs.List.{starts_with}
 use Rattle.std.specs.Option.{unwrap_or}
 use Rattle.std.specs.Ordering.{int_eq, is_lt}
 use Rattle.std.specs.Str.{chars, encode_utf8_all}
 use Rattle.record_text.specs.declared.atom.Atom.{Atom}
-use Rattle.record_text.specs.declared.atom.Atom.TheVariants.{Int, Text}
+use Rattle.record_text.specs.declared.atom.Atom.TheVariants as atom
+use Rattle.record_text.specs.declared.kinds.Kind.{Kind}
+use Rattle.record_text.specs.declared.kinds.Kind.TheVariants.{Int, Text}
 use Rattle.record_text.specs.FieldAtoms.{int_of_field}
 use Rattle.record_text.specs.Order.{text_cmp, text_eq}
 
@@ -44,98 +46,100 @@ count_of (pos n) = n
 count_of (negsuc n) = 0
 
 -- the characters of a text after the first ones, and of those as many as are kept
-abbrev pub part_of : List ℕ → ℤ → ℤ → List ℕ
-part_of text left_out kept = encode_utf8_all (take (count_of kept) (drop (count_of left_out) (chars text)))
+abbrev pub text_part : List ℕ → ℤ → ℤ → List ℕ
+text_part text left_out kept = encode_utf8_all (take (count_of kept) (drop (count_of left_out) (chars text)))
 
--- ---- the tables, by place
+-- ---- primitives
 
--- a primitive of one argument, by the argument's kind
-pub data Unary : Type 0 where
-  of_int : (ℤ → ℤ) → Unary
-  of_text : (List ℕ → ℤ) → Unary
+-- what an atom of a kind holds
+abbrev pub Held : Kind → Type 0
+Held Int = ℤ
+Held Text = List ℕ
 
--- a primitive of two arguments, by their kind
-pub data Binary : Type 0 where
-  of_ints : (ℤ → ℤ → ℤ) → Binary
-  of_texts : (List ℕ → List ℕ → ℤ) → Binary
+-- the atom of a kind that holds this
+abbrev pub atom_of : (k : Kind) → Held k → Atom
+atom_of Int a = atom.Int a
+atom_of Text a = atom.Text a
 
--- a primitive of three arguments, by their kinds
-pub data Ternary : Type 0 where
-  of_three_ints : (ℤ → ℤ → ℤ → ℤ) → Ternary
-  of_text_and_ints : (List ℕ → ℤ → ℤ → List ℕ) → Ternary
+-- what the atom holds, where it has the kind
+abbrev pub held_in : (k : Kind) → Atom → Option (Held k)
+held_in Int (atom.Int a) = Some a
+held_in Int (atom.Text a) = None
+held_in Text (atom.Int a) = None
+held_in Text (atom.Text a) = Some a
 
--- neg, abs, sign, not, len, int_of
-abbrev pub unary : List Unary
-unary = of_int (λ a. clamped (neg_ℤ a))
-    ∷ of_int (λ a. clamped (pos (unsigned_abs a)))
-    ∷ of_int int_signum
-    ∷ of_int (λ a. truth (not (is_true a)))
-    ∷ of_text (λ a. pos (length a))
-    ∷ of_text number_of
+-- the functions of arguments of these kinds with a result of this kind
+abbrev pub Functions : List Kind → Kind → Type 0
+Functions [] result = Held result
+Functions (k ∷ args) result = Held k → Functions args result
+
+-- a primitive: its name, the kinds of its arguments, the kind of its result, and its function
+pub record Primitive : Type 0 where
+  pub name : List ℕ
+  pub args : List Kind
+  pub result : Kind
+  pub function : Functions args result
+
+-- what a function gives at atoms; none where they aren't as many as its arguments, or have other kinds
+abbrev pub given : (args : List Kind) (result : Kind) → Functions args result → List Atom → Option Atom
+given [] result f [] = Some (atom_of result f)
+given [] result f (a ∷ atoms) = None
+given (k ∷ args) result f [] = None
+given (k ∷ args) result f (a ∷ atoms) = option_and_then (λ x. given args result (f x) atoms) (held_in k a)
+
+-- what a primitive answers at atoms
+abbrev pub answer : Primitive → List Atom → Option Atom
+answer p atoms = given p.args p.result p.function atoms
+
+-- ---- the tables
+
+-- a primitive of one Int, of two Ints, and of one Text or two with an Int as its result
+abbrev pub of_int : List ℕ → (ℤ → ℤ) → Primitive
+of_int name f = record { name = name; args = Int ∷ []; result = Int; function = f }
+
+abbrev pub of_ints : List ℕ → (ℤ → ℤ → ℤ) → Primitive
+of_ints name f = record { name = name; args = Int ∷ Int ∷ []; result = Int; function = f }
+
+abbrev pub of_text : List ℕ → (List ℕ → ℤ) → Primitive
+of_text name f = record { name = name; args = Text ∷ []; result = Int; function = f }
+
+abbrev pub of_texts : List ℕ → (List ℕ → List ℕ → ℤ) → Primitive
+of_texts name f = record { name = name; args = Text ∷ Text ∷ []; result = Int; function = f }
+
+-- the primitives of one argument
+abbrev pub unary : List Primitive
+unary = of_int (codes "neg") (λ a. clamped (neg_ℤ a))
+    ∷ of_int (codes "abs") (λ a. clamped (pos (unsigned_abs a)))
+    ∷ of_int (codes "sign") int_signum
+    ∷ of_int (codes "not") (λ a. truth (not (is_true a)))
+    ∷ of_text (codes "len") (λ a. pos (length a))
+    ∷ of_text (codes "int_of") number_of
     ∷ []
 
--- add, sub, mul, div, mod, min, max; eq, ne, lt, le, gt, ge; and, or; text_eq, text_lt, starts
-abbrev pub binary : List Binary
-binary = of_ints (λ a b. clamped (a +ℤ b))
-    ∷ of_ints (λ a b. clamped (a -ℤ b))
-    ∷ of_ints (λ a b. clamped (a *ℤ b))
-    ∷ of_ints quotient
-    ∷ of_ints remainder
-    ∷ of_ints int_min
-    ∷ of_ints int_max
-    ∷ of_ints (λ a b. truth (int_eq a b))
-    ∷ of_ints (λ a b. truth (not (int_eq a b)))
-    ∷ of_ints (λ a b. truth (int_lt a b))
-    ∷ of_ints (λ a b. truth (int_le a b))
-    ∷ of_ints (λ a b. truth (int_lt b a))
-    ∷ of_ints (λ a b. truth (int_le b a))
-    ∷ of_ints (λ a b. truth (is_true a && is_true b))
-    ∷ of_ints (λ a b. truth (is_true a || is_true b))
-    ∷ of_texts (λ a b. truth (text_eq a b))
-    ∷ of_texts (λ a b. truth (is_lt (text_cmp a b)))
-    ∷ of_texts (λ a b. truth (starts_with nat_eq a b))
+-- those of two
+abbrev pub binary : List Primitive
+binary = of_ints (codes "add") (λ a b. clamped (a +ℤ b))
+    ∷ of_ints (codes "sub") (λ a b. clamped (a -ℤ b))
+    ∷ of_ints (codes "mul") (λ a b. clamped (a *ℤ b))
+    ∷ of_ints (codes "div") quotient
+    ∷ of_ints (codes "mod") remainder
+    ∷ of_ints (codes "min") int_min
+    ∷ of_ints (codes "max") int_max
+    ∷ of_ints (codes "eq") (λ a b. truth (int_eq a b))
+    ∷ of_ints (codes "ne") (λ a b. truth (not (int_eq a b)))
+    ∷ of_ints (codes "lt") (λ a b. truth (int_lt a b))
+    ∷ of_ints (codes "le") (λ a b. truth (int_le a b))
+    ∷ of_ints (codes "gt") (λ a b. truth (int_lt b a))
+    ∷ of_ints (codes "ge") (λ a b. truth (int_le b a))
+    ∷ of_ints (codes "and") (λ a b. truth (is_true a && is_true b))
+    ∷ of_ints (codes "or") (λ a b. truth (is_true a || is_true b))
+    ∷ of_texts (codes "text_eq") (λ a b. truth (text_eq a b))
+    ∷ of_texts (codes "text_lt") (λ a b. truth (is_lt (text_cmp a b)))
+    ∷ of_texts (codes "starts") (λ a b. truth (starts_with nat_eq a b))
     ∷ []
 
--- pick, part
-abbrev pub ternary : List Ternary
-ternary = of_three_ints (λ a b c. if is_true a then b else c) ∷ of_text_and_ints part_of ∷ []
-
--- ---- their answers
-
--- the answer of a primitive, where the arguments have its kinds
-abbrev pub answer1 : Option Unary → Atom → Option Atom
-answer1 (Some (of_int f)) (Int a) = Some (Int (f a))
-answer1 (Some (of_int f)) (Text a) = None
-answer1 (Some (of_text f)) (Int a) = None
-answer1 (Some (of_text f)) (Text a) = Some (Int (f a))
-answer1 None a = None
-
-abbrev pub answer2 : Option Binary → Atom → Atom → Option Atom
-answer2 (Some (of_ints f)) (Int a) (Int b) = Some (Int (f a b))
-answer2 (Some (of_ints f)) (Int a) (Text b) = None
-answer2 (Some (of_ints f)) (Text a) b = None
-answer2 (Some (of_texts f)) (Int a) b = None
-answer2 (Some (of_texts f)) (Text a) (Int b) = None
-answer2 (Some (of_texts f)) (Text a) (Text b) = Some (Int (f a b))
-answer2 None a b = None
-
-abbrev pub answer3 : Option Ternary → Atom → Atom → Atom → Option Atom
-answer3 (Some (of_three_ints f)) (Int a) (Int b) (Int c) = Some (Int (f a b c))
-answer3 (Some (of_three_ints f)) (Int a) (Int b) (Text c) = None
-answer3 (Some (of_three_ints f)) (Int a) (Text b) c = None
-answer3 (Some (of_three_ints f)) (Text a) b c = None
-answer3 (Some (of_text_and_ints f)) (Int a) b c = None
-answer3 (Some (of_text_and_ints f)) (Text a) (Int b) (Int c) = Some (Text (f a b c))
-answer3 (Some (of_text_and_ints f)) (Text a) (Int b) (Text c) = None
-answer3 (Some (of_text_and_ints f)) (Text a) (Text b) c = None
-answer3 None a b c = None
-
--- the answer of the primitive at a place; none past the table's end, and none at arguments of other kinds
-abbrev pub prim1 : ℕ → Atom → Option Atom
-prim1 at a = answer1 (slice_get unary at) a
-
-abbrev pub prim2 : ℕ → Atom → Atom → Option Atom
-prim2 at a b = answer2 (slice_get binary at) a b
-
-abbrev pub prim3 : ℕ → Atom → Atom → Atom → Option Atom
-prim3 at a b c = answer3 (slice_get ternary at) a b c
+-- those of three
+abbrev pub ternary : List Primitive
+ternary = record { name = codes "pick"; args = Int ∷ Int ∷ Int ∷ []; result = Int; function = λ a b c. if is_true a then b else c }
+    ∷ record { name = codes "part"; args = Text ∷ Int ∷ Int ∷ []; result = Text; function = text_part }
+    ∷ []

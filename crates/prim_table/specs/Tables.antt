@@ -1,69 +1,77 @@
--- The tables' names, and the kinds of arguments and answers.
-use Rattle.std.specs.Prelude.{ℕ, List, [], ◌∷◌, slice_get, Option, option_map, nat_eq, codes}
+-- The primitives by their codes, which are their places in the tables, and by their names.
+use Rattle.std.specs.Prelude.{ℕ, List, [], ◌∷◌, map, slice_get, Option, option_and_then, option_map, nat_eq}
 use Rattle.std.specs.Cmp.Lexicographic.{pointwise}
 use Rattle.std.specs.List.{position}
 use Rattle.std.specs.Option.{option_or}
+use Rattle.record_text.specs.declared.atom.Atom.{Atom}
 use Rattle.record_text.specs.declared.kinds.Kind.{Kind}
-use Rattle.record_text.specs.declared.kinds.Kind.TheVariants.{Int, Text}
 use Rattle.prim_table.specs.declared.tables.PrimId.{PrimId}
 use Rattle.prim_table.specs.declared.tables.PrimId.TheVariants.{One, Two, Three}
-use Rattle.prim_table.specs.Primitives.{Unary, of_int, of_text, Binary, of_ints, of_texts, Ternary, of_three_ints, of_text_and_ints, unary, binary, ternary}
+use Rattle.prim_table.specs.Primitives.{Primitive, answer, unary, binary, ternary}
 
 -- ---- names
 
--- the names of the primitives of one argument, by place
+-- the names of primitives
+abbrev pub names : List Primitive → List (List ℕ)
+names table = map (λ p. p.name) table
+
 abbrev pub names1 : List (List ℕ)
-names1 = codes "neg" ∷ codes "abs" ∷ codes "sign" ∷ codes "not" ∷ codes "len" ∷ codes "int_of" ∷ []
+names1 = names unary
 
--- those of two arguments
 abbrev pub names2 : List (List ℕ)
-names2 = codes "add" ∷ codes "sub" ∷ codes "mul" ∷ codes "div" ∷ codes "mod" ∷ codes "min" ∷ codes "max"
-    ∷ codes "eq" ∷ codes "ne" ∷ codes "lt" ∷ codes "le" ∷ codes "gt" ∷ codes "ge" ∷ codes "and" ∷ codes "or"
-    ∷ codes "text_eq" ∷ codes "text_lt" ∷ codes "starts" ∷ []
+names2 = names binary
 
--- those of three arguments
 abbrev pub names3 : List (List ℕ)
-names3 = codes "pick" ∷ codes "part" ∷ []
+names3 = names ternary
 
--- the place of a name in a list of names
-abbrev pub place_of : List (List ℕ) → List ℕ → Option ℕ
-place_of names name = position (λ other. pointwise nat_eq other name) names
+-- where a name stands in a list of names
+abbrev pub index_of : List (List ℕ) → List ℕ → Option ℕ
+index_of names name = position (λ other. pointwise nat_eq other name) names
 
 -- the primitive of a name, if a table has the name
 abbrev pub found : List ℕ → Option PrimId
-found name = option_or (option_map One (place_of names1 name))
-    (option_or (option_map Two (place_of names2 name)) (option_map Three (place_of names3 name)))
+found name = option_or (option_map One (index_of names1 name))
+    (option_or (option_map Two (index_of names2 name)) (option_map Three (index_of names3 name)))
 
 -- ---- kinds
 
--- the kinds of a primitive's arguments
-abbrev pub unary_args : Unary → List Kind
-unary_args (of_int f) = Int ∷ []
-unary_args (of_text f) = Text ∷ []
+-- the kinds of the arguments of the primitive at a code, if the table has the code
+abbrev pub args_at : List Primitive → ℕ → Option (List Kind)
+args_at table at = option_map (λ p. p.args) (slice_get table at)
 
-abbrev pub binary_args : Binary → List Kind
-binary_args (of_ints f) = Int ∷ Int ∷ []
-binary_args (of_texts f) = Text ∷ Text ∷ []
-
-abbrev pub ternary_args : Ternary → List Kind
-ternary_args (of_three_ints f) = Int ∷ Int ∷ Int ∷ []
-ternary_args (of_text_and_ints f) = Text ∷ Int ∷ Int ∷ []
-
--- the kind of what a primitive of three arguments answers; all others answer an Int
-abbrev pub ternary_result : Ternary → Kind
-ternary_result (of_three_ints f) = Int
-ternary_result (of_text_and_ints f) = Text
-
--- the kinds of the arguments of the primitive at a place, if the table has the place
 abbrev pub args1 : ℕ → Option (List Kind)
-args1 at = option_map unary_args (slice_get unary at)
+args1 at = args_at unary at
 
 abbrev pub args2 : ℕ → Option (List Kind)
-args2 at = option_map binary_args (slice_get binary at)
+args2 at = args_at binary at
 
 abbrev pub args3 : ℕ → Option (List Kind)
-args3 at = option_map ternary_args (slice_get ternary at)
+args3 at = args_at ternary at
 
--- the kind of the answer of the primitive at a place
+-- the kind of the result
+abbrev pub result_at : List Primitive → ℕ → Option Kind
+result_at table at = option_map (λ p. p.result) (slice_get table at)
+
+abbrev pub result1 : ℕ → Option Kind
+result1 at = result_at unary at
+
+abbrev pub result2 : ℕ → Option Kind
+result2 at = result_at binary at
+
 abbrev pub result3 : ℕ → Option Kind
-result3 at = option_map ternary_result (slice_get ternary at)
+result3 at = result_at ternary at
+
+-- ---- answers
+
+-- what the primitive at a code answers at atoms; none past the table's end, and none at atoms of other kinds
+abbrev pub answer_at : List Primitive → ℕ → List Atom → Option Atom
+answer_at table at atoms = option_and_then (λ p. answer p atoms) (slice_get table at)
+
+abbrev pub prim1 : ℕ → Atom → Option Atom
+prim1 at a = answer_at unary at (a ∷ [])
+
+abbrev pub prim2 : ℕ → Atom → Atom → Option Atom
+prim2 at a b = answer_at binary at (a ∷ b ∷ [])
+
+abbrev pub prim3 : ℕ → Atom → Atom → Atom → Option Atom
+prim3 at a b c = answer_at ternary at (a ∷ b ∷ c ∷ [])

@@ -1,13 +1,13 @@
 //! The answers of the primitives.
 ghost use Rattle.std.specs.Prelude.{◌≡◌, [], ◌∷◌, ◌≤◌, length, IfOk, pos, unsigned_abs, nat_eq, take, drop, string_bytes};
-ghost use Rattle.std.specs.Result.{IsOkAnd, IsOk};
+ghost use Rattle.std.specs.Result.{IsOk};
 ghost use Rattle.std.specs.Str.Parse.{without_leading_sign};
 ghost use Rattle.std.specs.List.{starts_with};
 ghost use Rattle.std.specs.Str.{chars, encode_utf8_all};
 ghost use Rattle.record_text.specs.declared.atom.Atom.TheVariants.{Text};
 ghost use Rattle.record_text.specs.KindLists.{kind_of};
-ghost use Rattle.prim_table.specs.Tables.{args1, args2, args3, result3};
-ghost use Rattle.prim_table.specs.Primitives.{clamped, truth, number_of, quotient, remainder, count_of, part_of, prim1, prim2, prim3};
+ghost use Rattle.prim_table.specs.Primitives.{clamped, count_of, number_of, quotient, remainder, text_part, truth};
+ghost use Rattle.prim_table.specs.Tables.{args1, args2, args3, prim1, prim2, prim3, result1, result2, result3};
 
 use record_text::{Atom, Kind, Memory, ShortText, TextFault};
 use std::alloc::Global;
@@ -28,11 +28,12 @@ macro_rules! cases {
     };
 }
 
-/// The answer of the primitive at this place of `ONE`; never `Memory`.
+/// The answer of the primitive at this place of `ONE`; `Memory` only where the answer is a text.
 pub fn apply1(at: u8, a: &Atom) -> Result<Atom, Memory>
     requires { args1 at ≡ Some (kind_of a.now ∷ []) }
-    ensures value { IsOkAnd result (λ answer. prim1 at a.now ≡ Some answer) }
-    ensures kind { IfOk result (λ answer. kind_of answer ≡ Kind.Int) }
+    ensures value { IfOk result (λ answer. prim1 at a.now ≡ Some answer) }
+    ensures kind { IfOk result (λ answer. result1 at ≡ Some (kind_of answer)) }
+    ensures int { result1 at ≡ Some Kind.Int → IsOk result }
 {
     let answer = cases!(at, a;
         Atom::Int(a) => {
@@ -49,11 +50,12 @@ pub fn apply1(at: u8, a: &Atom) -> Result<Atom, Memory>
     Ok(Atom::Int(answer))
 }
 
-/// The answer of the primitive at this place of `TWO`; never `Memory`.
+/// The answer of the primitive at this place of `TWO`; `Memory` only where the answer is a text.
 pub fn apply2(at: u8, a: &Atom, b: &Atom) -> Result<Atom, Memory>
     requires { args2 at ≡ Some (kind_of a.now ∷ kind_of b.now ∷ []) }
-    ensures value { IsOkAnd result (λ answer. prim2 at a.now b.now ≡ Some answer) }
-    ensures kind { IfOk result (λ answer. kind_of answer ≡ Kind.Int) }
+    ensures value { IfOk result (λ answer. prim2 at a.now b.now ≡ Some answer) }
+    ensures kind { IfOk result (λ answer. result2 at ≡ Some (kind_of answer)) }
+    ensures int { result2 at ≡ Some Kind.Int → IsOk result }
 {
     let answer = cases!(at, (a, b);
         (Atom::Int(a), Atom::Int(b)) => {
@@ -160,7 +162,7 @@ fn begins(text: &str, front: &str) -> bool
 
 fn part(alloc: Global, text: &str, left_out: i64, kept: i64) -> Result<Atom, Memory>
     requires { length text.now ≤ 255 }
-    ensures { IfOk result (λ answer. answer ≡ Text (part_of text.now left_out kept)) }
+    ensures { IfOk result (λ answer. answer ≡ Text (text_part text.now left_out kept)) }
 {
     let text = front(alloc, after(text, count(left_out)), count(kept))?;
     match ShortText::new(alloc, text.as_str()) {

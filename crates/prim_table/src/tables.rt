@@ -1,7 +1,6 @@
 //! The tables of primitives.
-ghost use Rattle.std.specs.Prelude.{◌≡◌, IsTrue, Some, is_some};
-ghost use Rattle.prim_table.specs.Tables.{args1, args2, args3, found, names1, names2, names3, place_of, result3};
-ghost use Rattle.record_text.specs.declared.kinds.Kind.TheVariants as kind;
+ghost use Rattle.std.specs.Prelude.{◌≡◌, IsTrue, Some, is_some, slice_get};
+ghost use Rattle.prim_table.specs.Tables.{args1, args2, args3, found, index_of, names1, names2, names3, result1, result2, result3};
 
 use record_text::Kind;
 
@@ -158,8 +157,9 @@ pub const THREE: [PrimRow<3>; 2] = [
 /// The row of `ONE` at this place.
 pub fn row1(at: u8) -> PrimRow<1>
     requires { IsTrue (is_some (args1 at)) }
+    ensures name { slice_get names1 at ≡ Some result.name.now }
     ensures args { args1 at ≡ Some result.args }
-    ensures result { result.result ≡ kind.Int }
+    ensures result { result1 at ≡ Some result.result }
 {
     ONE[at as usize]
 }
@@ -167,8 +167,9 @@ pub fn row1(at: u8) -> PrimRow<1>
 /// The row of `TWO` at this place.
 pub fn row2(at: u8) -> PrimRow<2>
     requires { IsTrue (is_some (args2 at)) }
+    ensures name { slice_get names2 at ≡ Some result.name.now }
     ensures args { args2 at ≡ Some result.args }
-    ensures result { result.result ≡ kind.Int }
+    ensures result { result2 at ≡ Some result.result }
 {
     TWO[at as usize]
 }
@@ -176,6 +177,7 @@ pub fn row2(at: u8) -> PrimRow<2>
 /// The row of `THREE` at this place.
 pub fn row3(at: u8) -> PrimRow<3>
     requires { IsTrue (is_some (args3 at)) }
+    ensures name { slice_get names3 at ≡ Some result.name.now }
     ensures args { args3 at ≡ Some result.args }
     ensures result { result3 at ≡ Some result.result }
 {
@@ -194,20 +196,20 @@ pub enum PrimId {
 pub fn find(name: &[u8]) -> Option<PrimId>
     ensures { result ≡ found name.now }
 {
-    if let Some(at) = place_in_one(name) {
+    if let Some(at) = index_in_one(name) {
         return Some(PrimId::One(at));
     }
-    if let Some(at) = place_in_two(name) {
+    if let Some(at) = index_in_two(name) {
         return Some(PrimId::Two(at));
     }
-    match place_in_three(name) {
+    match index_in_three(name) {
         Some(at) => Some(PrimId::Three(at)),
         None => None,
     }
 }
 
-fn place_in_one(name: &[u8]) -> Option<u8>
-    ensures { result ≡ place_of names1 name.now }
+fn index_in_one(name: &[u8]) -> Option<u8>
+    ensures { result ≡ index_of names1 name.now }
 {
     match ONE.iter().position(|row| row.name.as_bytes() == name) {
         Some(at) => Some(at as u8),
@@ -215,8 +217,8 @@ fn place_in_one(name: &[u8]) -> Option<u8>
     }
 }
 
-fn place_in_two(name: &[u8]) -> Option<u8>
-    ensures { result ≡ place_of names2 name.now }
+fn index_in_two(name: &[u8]) -> Option<u8>
+    ensures { result ≡ index_of names2 name.now }
 {
     match TWO.iter().position(|row| row.name.as_bytes() == name) {
         Some(at) => Some(at as u8),
@@ -224,8 +226,8 @@ fn place_in_two(name: &[u8]) -> Option<u8>
     }
 }
 
-fn place_in_three(name: &[u8]) -> Option<u8>
-    ensures { result ≡ place_of names3 name.now }
+fn index_in_three(name: &[u8]) -> Option<u8>
+    ensures { result ≡ index_of names3 name.now }
 {
     match THREE.iter().position(|row| row.name.as_bytes() == name) {
         Some(at) => Some(at as u8),
