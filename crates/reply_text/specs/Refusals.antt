@@ -1,5 +1,5 @@
 -- The objects of refusals, with their keys in byte order.
-use Rattle.std.specs.Prelude.{ℕ, List, true, false, codes, Option, Some, None}
+use Rattle.std.specs.Prelude.{ℕ, List, false, codes, Option, Some, None}
 use Rattle.frac_core.specs.declared.FracFault.{FracFault}
 use Rattle.serde_json.specs.Data.{Data, boolean, number, unsigned, string, object, Members, no_members, member}
 use Rattle.plan_model.specs.declared.plan.What.{What}
@@ -52,13 +52,13 @@ over_data step l = object (member (codes "limit") (string (limit_word l)) (refus
 abbrev pub weight_fault_data : ℕ → FracFault → Data
 weight_fault_data at f =
     object (member (codes "at") (whole at)
-        (refused (member (codes "text") (string (fault_word f)) (cause (codes "weight")))))
+    (refused (member (codes "text") (string (fault_word f)) (cause (codes "weight")))))
 
 -- `{"name":"a","ok":false,"what":"source","why":"exists"}`
 abbrev pub name_data : Thing → List ℕ → List ℕ → Data
 name_data what name why =
     object (member (codes "name") (string name)
-        (refused (member (codes "what") (string (thing_word what)) (cause why))))
+    (refused (member (codes "what") (string (thing_word what)) (cause why))))
 
 -- `{"ok":false,"what":"source","why":"full"}`
 abbrev pub full_data : Thing → Data
@@ -68,7 +68,7 @@ full_data what = object (refused (member (codes "what") (string (thing_word what
 abbrev pub csv_data : ℕ → CsvWhat → Data
 csv_data at what =
     object (refused (member (codes "record") (whole at)
-        (member (codes "what") (string (csv_word what)) (cause (codes "csv")))))
+    (member (codes "what") (string (csv_word what)) (cause (codes "csv")))))
 
 -- `{"ok":false,"record":1,"why":"negative"}`
 abbrev pub record_data : ℕ → List ℕ → Data
@@ -78,7 +78,7 @@ record_data at why = object (refused (member (codes "record") (whole at) (cause 
 abbrev pub plan_data : ℕ → What → Data
 plan_data step w =
     object (refused (member (codes "step") (whole step)
-        (member (codes "what") (string (what_word w)) (cause (codes "plan")))))
+    (member (codes "what") (string (what_word w)) (cause (codes "plan")))))
 
 -- `{"ok":false,"row":1,"why":"repeat"}`
 abbrev pub row_fault_data : ℕ → List ℕ → Data
@@ -92,7 +92,7 @@ sum_range_data at = object (member (codes "at") (whole at) (refused_for (codes "
 abbrev pub range_data : List ℕ → ℕ → Data
 range_data plan step =
     object (refused (member (codes "plan") (string plan)
-        (member (codes "step") (whole step) (cause (codes "range")))))
+    (member (codes "step") (whole step) (cause (codes "range")))))
 
 -- ---- a refusal
 

@@ -51,7 +51,7 @@ records_data count = object (done (member (codes "records") (whole count) no_mem
 abbrev pub planned_data : List Kind → List (List ℕ × ℕ) → Data
 planned_data cols uses =
     object (member (codes "cols") (list_data kind_data cols)
-        (done (member (codes "uses") (list_data use_data uses) no_members)))
+    (done (member (codes "uses") (list_data use_data uses) no_members)))
 
 -- `{"ok":true,"weights":["9/19","0"]}`
 abbrev pub looked_up_data : List Ratio → Data

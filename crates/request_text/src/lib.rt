@@ -13,7 +13,8 @@ mod read;
 
 pub use csv_changes::{Added, CsvFault, CsvWhat, read_changes};
 pub use messages::{
-    Bytes, FieldText, Memory, ReadFault, Refusal, Reply, Request, Rows, Target, Thing, Uses, Weights,
+    Bytes, FieldText, Memory, ReadFault, Refusal, Reply, Request, Rows, Target, Thing, Uses,
+    Weights,
 };
 pub use read::{MAX_LINE, read_request};
 pub use reply_text::write_reply;

@@ -29,7 +29,11 @@ pub fn sum(alloc: Global, value: &Value, members: &Map<String, Value>) -> Result
 
 /// A new source.
 #[tactic(auto, unfolding(crate::specs::Requests::source_in))]
-pub fn source(alloc: Global, value: &Value, members: &Map<String, Value>) -> Result<Request, ReadFault>
+pub fn source(
+    alloc: Global,
+    value: &Value,
+    members: &Map<String, Value>,
+) -> Result<Request, ReadFault>
     ensures value { Gives result (source_in (view value.now) (members_view members.now.entries)) }
     ensures limits { IfOk result IsWithinLimits }
 {
@@ -49,7 +53,11 @@ pub fn source(alloc: Global, value: &Value, members: &Map<String, Value>) -> Res
 
 /// Weights to be added to a source.
 #[tactic(auto, unfolding(crate::specs::Requests::update_in))]
-pub fn update(alloc: Global, value: &Value, members: &Map<String, Value>) -> Result<Request, ReadFault>
+pub fn update(
+    alloc: Global,
+    value: &Value,
+    members: &Map<String, Value>,
+) -> Result<Request, ReadFault>
     ensures value { Gives result (update_in (view value.now) (members_view members.now.entries)) }
     ensures limits { IfOk result IsWithinLimits }
 {
@@ -101,7 +109,11 @@ pub fn drop_plan(
 
 /// Rows to be looked up in a source or a plan.
 #[tactic(auto, unfolding(crate::specs::Requests::exact_in))]
-pub fn exact(alloc: Global, value: &Value, members: &Map<String, Value>) -> Result<Request, ReadFault>
+pub fn exact(
+    alloc: Global,
+    value: &Value,
+    members: &Map<String, Value>,
+) -> Result<Request, ReadFault>
     ensures value { Gives result (exact_in (view value.now) (members_view members.now.entries)) }
     ensures limits { IfOk result IsWithinLimits }
 {
