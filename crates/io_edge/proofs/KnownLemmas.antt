@@ -1,8 +1,7 @@
--- What is known, and how the count of faults rises, over several calls.
-use Rattle.std.proofs.Common.{◌≡◌, ℕ, List, [], ◌++◌, refl, ap, sym, ◌∙◌, append_assoc, append-nil, subst, ◌+◌, arith}
+-- What is known over several calls.
+use Rattle.std.proofs.Common.{◌≡◌, List, [], ◌++◌, refl, ap, sym, ◌∙◌, append_assoc, append-nil, subst}
 use Rattle.std.specs.Prelude.{Option, None, Some}
 use Rattle.io_edge.specs.Known.{Loses, Gains}
-use Rattle.io_edge.specs.Causes.{RoseBy}
 
 -- what stays the same lost nothing
 pub Loses-none : {A : Type 0} (known : Option (List A)) → Loses known known []
@@ -43,7 +42,3 @@ Gains-append (Some a) None new first second gained more = absurd gained
 Gains-append (Some a) (Some b) None first second gained more = more
 Gains-append (Some a) (Some b) (Some c) first second gained more =
     more ∙ ap (λ front. front ++ second) gained ∙ append_assoc a first second
-
--- two rises one after another
-pub RoseBy-append : (m n before between now : ℕ) → RoseBy m before between → RoseBy n between now → RoseBy (m + n) before now
-RoseBy-append m n before between now rose more = omega arith

@@ -19,7 +19,8 @@ Gains (Some old) (Some new) items = new ≡ old ++ items
 abbrev pub IsUsedUp : {A : Type 0} → Option (List A) → Type 0
 IsUsedUp known = IfSome known (λ left. left ≡ [])
 
--- a read of n bytes takes the first n of the buffer from what was left, none of them exactly at the end; a failed read takes none
+-- a read of n bytes takes the first n of the buffer from what was left, and none exactly at the end; a failed read
+-- takes none
 abbrev pub ReadOutcome : {E : Type 0} → Option (List ℕ) → Option (List ℕ) → Result ℕ E → List ℕ → Type 0
 ReadOutcome old new (Ok n) buf = Loses old new (take n buf) × IfSome old (λ left. (n ≡ 0) ↔ (left ≡ []))
 ReadOutcome old new (Err e) buf = new ≡ old
@@ -30,6 +31,7 @@ WriteOutcome old new (Ok n) piece = Gains old new (take n piece)
 WriteOutcome old new (Err e) piece = new ≡ old
 
 -- a draw puts its epsilon and number after what was given; a failed draw puts nothing
-abbrev pub DrawOutcome : {A E : Type 0} → Option (List (ℕ × A)) → Option (List (ℕ × A)) → Result A E → ℕ → Type 0
+abbrev pub DrawOutcome : {A E : Type 0} → Option (List (ℕ × A)) → Option (List (ℕ × A))
+    → Result A E → ℕ → Type 0
 DrawOutcome old new (Ok number) eps = Gains old new ((eps, number) ∷ [])
 DrawOutcome old new (Err e) eps = new ≡ old

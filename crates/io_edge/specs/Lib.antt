@@ -1,5 +1,6 @@
 pub mod Causes
 pub mod Known
+pub mod Limits
 pub mod Path
 pub mod Shelf
 pub mod Devices

@@ -4,28 +4,14 @@
 //! say of a device is optional: `None` says nothing, and stays `None`.
 #![tactic(auto)]
 
-ghost use Rattle.std.specs.Prelude.{◌≡◌, ◌^◌, ◌<◌, ◌≤◌, ℕ, ℤ, List, Option, IfOk, length};
+ghost use Rattle.std.specs.Prelude.{◌≡◌, ◌<◌, ◌≤◌, ℕ, ℤ, List, Option, IfOk, length};
 ghost use Rattle.io_edge.specs.Causes.{HasCause, ShelfHasCause};
+ghost use Rattle.io_edge.specs.Limits.{fetch_limit, max_epsilon};
 ghost use Rattle.io_edge.specs.Path.{IsPath};
 ghost use Rattle.io_edge.specs.Shelf.{Files, FetchOutcome};
 ghost use Rattle.io_edge.specs.Known.{ReadOutcome, WriteOutcome, DrawOutcome};
 
-/// The device failed in this call.
-#[derive(Clone, Copy, Debug, PartialEq, Eq)]
-pub struct Failed;
-
-/// Why a shelf didn't give a file.
-#[derive(Clone, Copy, Debug, PartialEq, Eq)]
-pub enum ShelfFault {
-    /// The shelf failed in this call.
-    Failed,
-    /// The shelf has no file at the path.
-    Missing,
-    /// The file has more bytes than were asked for.
-    Long,
-    /// There is no memory for the bytes.
-    Memory,
-}
+use crate::{Failed, ShelfFault};
 
 /// A source of bytes.
 pub trait Source {
@@ -70,7 +56,7 @@ pub trait Noise {
     /// A number of noise at an epsilon of `eps` millionths, from 1 to 1,000,000,000.
     fn draw(&mut self, eps: u64) -> Result<i64, Failed>
         requires low { 1 ≤ eps }
-        requires high { eps ≤ 1000000000 }
+        requires high { eps ≤ max_epsilon }
         ensures number { DrawOutcome (given self.old) (given self.new) result eps }
         ensures cause { HasCause (faults self.old) (faults self.new) result };
 }
@@ -83,10 +69,11 @@ pub trait Shelf {
     // how often it failed
     ghost faults: { Self → ℕ };
 
-    /// Puts the file at `path` into `into`, which it empties first: the whole file, or one byte more than `max` of a longer one.
+    /// Puts the file at `path` into `into`, which it empties first: the whole file, or one byte more than `max` of a
+    /// longer one.
     fn fetch(&mut self, path: &[u8], max: usize, into: &mut Vec<u8>) -> Result<(), ShelfFault>
         requires path { IsPath path.now }
-        requires max { max < 2 ^ 40 }
+        requires max { max < fetch_limit }
         ensures gives { FetchOutcome (files self.old) path.now max result into.new.items }
         ensures kept { files self.new ≡ files self.old }
         ensures cause { ShelfHasCause (faults self.old) (faults self.new) result };

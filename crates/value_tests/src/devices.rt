@@ -1,5 +1,6 @@
 //! Tests of `io_edge`.
-ghost use Rattle.std.specs.Prelude.{◌^◌, ◌<◌, ◌≤◌, length};
+ghost use Rattle.std.specs.Prelude.{◌<◌, ◌≤◌, length};
+ghost use Rattle.io_edge.specs.Limits.{fetch_limit, max_epsilon};
 ghost use Rattle.io_edge.specs.Path.{IsPath};
 
 use io_edge::{
@@ -23,7 +24,7 @@ fn write<S: Sink>(sink: &mut S, piece: &[u8]) -> Result<usize, Failed>
 
 fn draw<N: Noise>(noise: &mut N, eps: u64) -> Result<i64, Failed>
     requires low { 1 ≤ eps }
-    requires high { eps ≤ 1000000000 }
+    requires high { eps ≤ max_epsilon }
 {
     noise.draw(eps)
 }
@@ -35,7 +36,7 @@ fn fetch<S: Shelf>(
     into: &mut Vec<u8>,
 ) -> Result<(), ShelfFault>
     requires path { IsPath path.now }
-    requires max { max < 2 ^ 40 }
+    requires max { max < fetch_limit }
 {
     shelf.fetch(path, max, into)
 }

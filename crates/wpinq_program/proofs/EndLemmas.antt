@@ -1,6 +1,6 @@
 -- How a run ends, by its status.
-use Rattle.std.proofs.Common.{◌≡◌, ℕ, true, false, List, [], ◌++◌, refl, ap, sym, ◌∙◌, append-nil, ◌≤◌, ◌+◌, length, take, length-append, arith, inl, inr, ◌⊎◌, ◌≢◌}
-use Rattle.std.specs.Prelude.{Option, None, Some, IfSome}
+use Rattle.std.proofs.Common.{◌≡◌, ℕ, true, false, List, [], ◌++◌, refl, ap, sym, ◌∙◌, append-nil, ◌≤◌, ◌+◌, length, length-append, arith, inl, inr, ◌⊎◌, ◌≢◌}
+use Rattle.std.specs.Prelude.{Option, None, Some}
 use Rattle.std.proofs.lemmas.List.{take_at}
 use Rattle.io_edge.specs.Causes.{Rose}
 use Rattle.io_edge.specs.Known.{Loses, IsUsedUp}
@@ -9,10 +9,12 @@ use Rattle.line_runs.specs.Lines.{whole_lines, open_line, last_line, Lines, Whol
 use Rattle.line_runs.proofs.LineLemmas.{whole_lines-append, open_line-append}
 use Rattle.session_core.specs.State.{State}
 use Rattle.wpinq_program.specs.Served.{Moment, Served, ServedInPart}
-use Rattle.wpinq_program.specs.Outcome.{IsStatus, Ends, Outcome, Streaming, Streamed}
+use Rattle.wpinq_program.specs.Outcome.{IsStatus, IsComplete, Ends, Outcome, Streaming, Streamed}
 use Rattle.wpinq_program.specs.declared.stream.Stop.TheVariants.{InputEnd, ReadFault, WriteFault, OverLimit}
+use Rattle.wpinq_program.proofs.LineLemmas.{kept-nil}
 use Rattle.wpinq_program.proofs.TakenLemmas.{taken_within}
 use Rattle.wpinq_program.proofs.ServedLemmas.{Served-none, Served-append, ServedInPart-append, ServedInPart-more, ServedInPart-of}
+use Rattle.wpinq_program.specs.Limits.{kept_of}
 
 -- nothing was taken or served
 pub Ends-idle : (max : ℕ) (left : Option (List ℕ)) (m : Moment) (status : ℕ) → (status ≡ 2) ⊎ (status ≡ 5) → Ends max [] left m m status
@@ -73,18 +75,18 @@ Ends-over_limit max taken more left a b full one lines = record {
 
 pub Streaming-start : (left : Option (List ℕ)) (m : Moment) → Streaming 0 left left m m []
 unfolding whole_lines open_line
-Streaming-start left m = record { taken = []; left = Loses-none left; len = refl; served = Served-none m; line = refl }
+Streaming-start left m = record { taken = []; left = Loses-none left; len = refl; served = Served-none m; line = kept-nil }
 
 -- one more piece, whose lines are served
 pub Streaming-more : (total n : ℕ) (before mid after : Option (List ℕ)) (start a b : Moment) (begun now piece : List ℕ) (s : Streaming total before mid start a begun)
     → Loses mid after piece → length piece ≡ n → Served a b (whole_lines (open_line [] s.taken) piece) true
-    → now ≡ take 1048578 (open_line (open_line [] s.taken) piece) → Streaming (total + n) before after start b now
+    → now ≡ kept_of (open_line (open_line [] s.taken) piece) → Streaming (total + n) before after start b now
 Streaming-more total n before mid after start a b begun now piece s left len served line = record {
   taken = s.taken ++ piece;
   left = Loses-append before mid after s.taken piece s.left left;
   len = length-append s.taken piece ∙ ap (λ m. m + length piece) s.len ∙ ap (λ m. total + m) len;
   served = rw (whole_lines-append [] s.taken piece) (Served-append start a b (whole_lines [] s.taken) (whole_lines (open_line [] s.taken) piece) true s.served served);
-  line = line ∙ ap (λ l. take 1048578 l) (sym (open_line-append [] s.taken piece));
+  line = line ∙ ap kept_of (sym (open_line-append [] s.taken piece));
 }
 
 -- a piece whose replies weren't all written
@@ -138,7 +140,7 @@ Outcome-over_limit max before after start b stop begun same s = record {
 }
 
 pub Outcome-finished : (max : ℕ) (before after : Option (List ℕ)) (start b c : Moment) (stop : State → Moment) (begun : List ℕ) → stop c.state ≡ c
-    → Streamed max before after start b begun InputEnd → ((line : List ℕ) → begun ≡ take 1048578 line → Served b c (last_line line) true)
+    → Streamed max before after start b begun InputEnd → ((line : List ℕ) → begun ≡ kept_of line → Served b c (last_line line) true)
     → Outcome max before after start stop 0
 Outcome-finished max before after start b c stop begun same s last = record {
   taken = s.taken;
@@ -149,7 +151,7 @@ Outcome-finished max before after start b c stop begun same s last = record {
 
 -- the reply to the last line wasn't all written
 pub Outcome-last_cut : (max : ℕ) (before after : Option (List ℕ)) (start b c : Moment) (stop : State → Moment) (begun : List ℕ) → stop c.state ≡ c
-    → Streamed max before after start b begun InputEnd → ((line : List ℕ) → begun ≡ take 1048578 line → Served b c (last_line line) false)
+    → Streamed max before after start b begun InputEnd → ((line : List ℕ) → begun ≡ kept_of line → Served b c (last_line line) false)
     → Outcome max before after start stop 4
 Outcome-last_cut max before after start b c stop begun same s last =
     let served = Served-append start b c (whole_lines [] s.taken) (last_line (open_line [] s.taken)) false s.ends.2 (last (open_line [] s.taken) s.ends.3) in
@@ -168,7 +170,7 @@ pub Outcome-complete : (max : ℕ) (before after : Option (List ℕ)) (start : M
     → Outcome max before after start stop status → IsStatus status → status ≢ 2
     → (status ≡ 3 → Rose read_before read_now) → (status ≡ 4 → Rose write_before write_now)
     → ¬ Rose read_before read_now → ¬ Rose write_before write_now
-    → IfSome before (λ bytes. length bytes ≤ max → (status ≡ 0) ⊎ (status ≡ 5))
+    → IsComplete max before status
 Outcome-complete max None after start stop status rb rn wb wn o is two three four no_read no_write = tt
 Outcome-complete max (Some bytes) after start stop status rb rn wb wn o is two three four no_read no_write = λ fits.
     let within = taken_within bytes o.taken after o.left in

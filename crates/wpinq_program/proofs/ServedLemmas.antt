@@ -1,10 +1,10 @@
 -- What was served, over several lines.
-use Rattle.std.proofs.Common.{◌≡◌, ℤ, ℕ, Bool, true, false, List, [], ◌∷◌, ◌++◌, refl, ap, sym, ◌∙◌, append_assoc, append-nil, ◌<◌, ◌+◌, length, take, drop, length-append, arith, lit<, subst, inl, inr}
+use Rattle.std.proofs.Common.{◌≡◌, ℤ, ℕ, Bool, true, false, List, [], ◌∷◌, ◌++◌, refl, ap, sym, ◌∙◌, append_assoc, append-nil, ◌<◌, ◌+◌, length, take, drop, length-append, arith, subst, inl, inr}
 use Rattle.std.specs.Prelude.{All, ◌≢◌, MatchBool, MatchResult, Result, Ok, Err, is_ok}
 use Rattle.std.proofs.lemmas.Grind.{flat_map-append}
 use Rattle.std.proofs.lemmas.List.{take_all, take-append-drop}
 use Rattle.std.proofs.Math.Seq.{take-append-add}
-use Rattle.io_edge.specs.declared.device.Failed.{Failed}
+use Rattle.io_edge.specs.declared.failed.Failed.{Failed}
 use Rattle.io_edge.specs.Known.{Gains}
 use Rattle.io_edge.proofs.KnownLemmas.{Gains-none, Gains-append}
 use Rattle.line_runs.specs.Lines.{without_cr, whole_lines, open_line, last_line}
@@ -15,8 +15,10 @@ use Rattle.session_core.specs.Machine.{Answers}
 use Rattle.session_core.specs.State.{State}
 use Rattle.wpinq_program.specs.Served.{joined, IsProperFront, Moment, Served, ServedInPart}
 use Rattle.wpinq_program.proofs.Segments.{Segment, whole_lines-segment, whole_lines-rest, open_line-rest}
-use Rattle.wpinq_program.proofs.LineLemmas.{take-extend, kept_is_long, short_or_long, none_kept, some_kept}
+use Rattle.wpinq_program.proofs.LineLemmas.{kept-extend, kept_is_long, kept_whole, none_kept, short_or_long, some_kept}
 use Rattle.session_core.proofs.MachineLemmas.{Answers-overlong}
+use Rattle.session_core.specs.Limits.{max_line}
+use Rattle.wpinq_program.specs.Limits.{kept_of}
 
 pub Served-none : (m : Moment) → Served m m [] true
 Served-none m = record {
@@ -112,20 +114,20 @@ Served-answered a b line given reply n result some answered drawn count put whol
 -- ---- lines of which only the front is kept
 
 run_of_kept : (old new : State) (line : List ℕ) (given : List (ℕ × ℤ)) (replies : List (List ℕ))
-    → Run Answers old (without_cr (take 1048578 line) ∷ []) given replies new → Run Answers old (without_cr line ∷ []) given replies new
+    → Run Answers old (without_cr (kept_of line) ∷ []) given replies new → Run Answers old (without_cr line ∷ []) given replies new
 run_of_kept old new line given replies run =
     elim (short_or_long line) as (λ _. Run Answers old (without_cr line ∷ []) given replies new) [
-      | inl short ↦ subst (λ l. Run Answers old (without_cr l ∷ []) given replies new) (take_all 1048578 line short) run
+      | inl short ↦ subst (λ l. Run Answers old (without_cr l ∷ []) given replies new) (kept_whole line short) run
       | inr long ↦
           let kept = kept_is_long line long in
-          let whole : 1048576 < length (without_cr line) = omega (arith, without_cr-long line, long) in
-          Run-same Answers old new (without_cr (take 1048578 line)) (without_cr line) given replies
+          let whole : max_line < length (without_cr line) = omega (arith, without_cr-long line, long) in
+          Run-same Answers old new (without_cr (kept_of line)) (without_cr line) given replies
           (omega (arith, kept)) (omega (arith, whole))
-          (λ state noise reply next a. Answers-overlong state (without_cr (take 1048578 line)) (without_cr line) noise reply next kept whole a) run
+          (λ state noise reply next a. Answers-overlong state (without_cr (kept_of line)) (without_cr line) noise reply next kept whole a) run
     ]
 
 -- a line was served where what is kept of it was
-pub Served-kept : (a b : Moment) (line kept : List ℕ) (all : Bool) → kept ≡ take 1048578 line
+pub Served-kept : (a b : Moment) (line kept : List ℕ) (all : Bool) → kept ≡ kept_of line
     → Served a b (without_cr kept ∷ []) all → Served a b (without_cr line ∷ []) all
 Served-kept a b line kept all k s = record {
   given = s.given;
@@ -139,26 +141,26 @@ Served-kept a b line kept all k s = record {
 }
 
 -- the last line: there is none, or it is served
-pub Served-no_last : (a : Moment) (line kept : List ℕ) → kept ≡ take 1048578 line → length kept ≡ 0 → Served a a (last_line line) true
-Served-no_last a line kept k none = rw (none_kept 1048578 line kept (lit< tt) k none) (Served-none a)
+pub Served-no_last : (a : Moment) (line kept : List ℕ) → kept ≡ kept_of line → length kept ≡ 0 → Served a a (last_line line) true
+Served-no_last a line kept k none = rw (none_kept line kept k none) (Served-none a)
 
 last_of : (line : List ℕ) → 0 < length line → last_line line ≡ without_cr line ∷ []
 last_of [] some = absurd (omega arith)
 last_of (b ∷ line) some = refl
 
-pub Served-last : (a b : Moment) (line kept : List ℕ) (all : Bool) → kept ≡ take 1048578 line → 0 < length kept
+pub Served-last : (a b : Moment) (line kept : List ℕ) (all : Bool) → kept ≡ kept_of line → 0 < length kept
     → Served a b (without_cr kept ∷ []) all → Served a b (last_line line) all
 Served-last a b line kept all k some s =
-    rw (last_of line (some_kept 1048578 line kept k some)) (Served-kept a b line kept all k s)
+    rw (last_of line (some_kept line kept k some)) (Served-kept a b line kept all k s)
 
 -- ---- the lines of a piece, where `line` is open before it and `begun` is what is kept of the open line
 
-kept_on : (line segment begun kept : List ℕ) → begun ≡ take 1048578 line → kept ≡ take 1048578 (begun ++ segment) → kept ≡ take 1048578 (line ++ segment)
-kept_on line segment begun kept k e = e ∙ ap (λ l. take 1048578 (l ++ segment)) k ∙ take-extend 1048578 line segment
+kept_on : (line segment begun kept : List ℕ) → begun ≡ kept_of line → kept ≡ kept_of (begun ++ segment) → kept ≡ kept_of (line ++ segment)
+kept_on line segment begun kept k e = e ∙ ap (λ l. kept_of (l ++ segment)) k ∙ kept-extend line segment
 
 -- one more line of the piece
 pub Served-next : (a b c : Moment) (line piece begun kept : List ℕ) (start len : ℕ) (all : Bool) → Segment piece start len
-    → begun ≡ take 1048578 (open_line line (take start piece)) → kept ≡ take 1048578 (begun ++ take len (drop start piece))
+    → begun ≡ kept_of (open_line line (take start piece)) → kept ≡ kept_of (begun ++ take len (drop start piece))
     → Served a b (whole_lines line (take start piece)) true → Served b c (without_cr kept ∷ []) all
     → Served a c (whole_lines line (take (start + len + 1) piece)) all
 Served-next a b c line piece begun kept start len all s k e before now =
@@ -170,7 +172,7 @@ Served-next a b c line piece begun kept start len all s k e before now =
 
 -- one more line of the piece, whose reply wasn't all written
 pub ServedInPart-next : (a b c : Moment) (line piece begun kept : List ℕ) (start len : ℕ) → Segment piece start len
-    → begun ≡ take 1048578 (open_line line (take start piece)) → kept ≡ take 1048578 (begun ++ take len (drop start piece))
+    → begun ≡ kept_of (open_line line (take start piece)) → kept ≡ kept_of (begun ++ take len (drop start piece))
     → Served a b (whole_lines line (take start piece)) true → Served b c (without_cr kept ∷ []) false
     → ServedInPart a c (whole_lines line piece)
 ServedInPart-next a b c line piece begun kept start len s k e before now =
@@ -193,8 +195,8 @@ Served-rest a b line piece start plain served =
     rw same served
 
 pub kept-rest : (line piece begun kept : List ℕ) (start : ℕ) → All (λ byte. byte ≢ 10) (drop start piece)
-    → begun ≡ take 1048578 (open_line line (take start piece)) → kept ≡ take 1048578 (begun ++ drop start piece)
-    → kept ≡ take 1048578 (open_line line piece)
+    → begun ≡ kept_of (open_line line (take start piece)) → kept ≡ kept_of (begun ++ drop start piece)
+    → kept ≡ kept_of (open_line line piece)
 kept-rest line piece begun kept start plain k e =
     kept_on (open_line line (take start piece)) (drop start piece) begun kept k e
-    ∙ ap (take 1048578) (sym (open_line-rest line (take start piece) (drop start piece) plain) ∙ ap (open_line line) (take-append-drop start piece))
+    ∙ ap kept_of (sym (open_line-rest line (take start piece) (drop start piece) plain) ∙ ap (open_line line) (take-append-drop start piece))

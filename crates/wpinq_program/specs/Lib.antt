@@ -1,3 +1,4 @@
+pub mod Limits
 pub mod Served
 pub mod Words
 pub mod Outcome

@@ -1,5 +1,5 @@
 -- How a run of the program ends, by its status.
-use Rattle.std.specs.Prelude.{◌≡◌, ◌⊎◌, ◌↔◌, ℕ, ◌<◌, ◌≤◌, true, List, [], ◌++◌, length, take, Option}
+use Rattle.std.specs.Prelude.{◌≡◌, ◌⊎◌, ◌↔◌, ℕ, ◌<◌, ◌≤◌, true, List, [], ◌++◌, length, take, Option, IfSome}
 use Rattle.io_edge.specs.Causes.{Rose}
 use Rattle.io_edge.specs.Known.{Loses, IsUsedUp}
 use Rattle.line_runs.specs.Lines.{Lines, WholeLines, open_line}
@@ -9,6 +9,7 @@ use Rattle.wpinq_program.specs.declared.stream.Stop.{Stop}
 use Rattle.wpinq_program.specs.declared.stream.Stop.TheVariants.{InputEnd, ReadFault, WriteFault, OverLimit}
 use Rattle.wpinq_program.specs.declared.input.Beyond.{Beyond}
 use Rattle.wpinq_program.specs.declared.input.Beyond.TheVariants.{End, Fault, Byte}
+use Rattle.wpinq_program.specs.Limits.{kept_of}
 
 -- the statuses
 abbrev pub IsStatus : ℕ → Type 0
@@ -35,6 +36,10 @@ pub record Outcome (max : ℕ) (before after : Option (List ℕ)) (start : Momen
   pub left : Loses before after taken
   pub ends : Ends max taken after start (stop state) status
 
+-- a known input within the limit is answered to its end, unless there was no memory at the start
+abbrev pub IsComplete : ℕ → Option (List ℕ) → ℕ → Type 0
+IsComplete max known status = IfSome known (λ bytes. length bytes ≤ max → (status ≡ 0) ⊎ (status ≡ 5))
+
 -- what a read of one more byte found
 abbrev pub BeyondIs : Beyond → List ℕ → Option (List ℕ) → ℕ → ℕ → Type 0
 BeyondIs End more left before now = (more ≡ []) × IsUsedUp left
@@ -47,12 +52,13 @@ pub record Streaming (total : ℕ) (before now : Option (List ℕ)) (start at : 
   pub left : Loses before now taken
   pub len : length taken ≡ total
   pub served : Served start at (WholeLines taken) true
-  pub line : begun ≡ take 1048578 (open_line [] taken)
+  pub line : begun ≡ kept_of (open_line [] taken)
 
 -- why no more is read, where `more` was taken beyond the limit
 abbrev pub StopsWith : Stop → ℕ → List ℕ → List ℕ → Option (List ℕ) → Moment → Moment → List ℕ → Type 0
 StopsWith InputEnd max taken more left start stop begun =
-    (more ≡ []) × IsUsedUp left × Served start stop (WholeLines taken) true × (begun ≡ take 1048578 (open_line [] taken))
+    (more ≡ []) × IsUsedUp left × Served start stop (WholeLines taken) true
+    × (begun ≡ kept_of (open_line [] taken))
 StopsWith ReadFault max taken more left start stop begun = (more ≡ []) × Served start stop (WholeLines taken) true
 StopsWith WriteFault max taken more left start stop begun = (more ≡ []) × ServedInPart start stop (WholeLines taken)
 StopsWith OverLimit max taken more left start stop begun =

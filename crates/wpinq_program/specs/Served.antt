@@ -1,10 +1,11 @@
 -- What was answered and written between two moments.
-use Rattle.std.specs.Prelude.{◌≡◌, ℕ, ℤ, ◌+◌, ◌<◌, Bool, false, List, ◌++◌, length, take, Option, MatchBool}
+use Rattle.std.specs.Prelude.{◌≡◌, ℕ, ℤ, ◌+◌, ◌<◌, Bool, true, false, List, ◌++◌, length, take, Option, MatchBool, MatchResult, Result}
 use Rattle.std.specs.List.{flat_map}
 use Rattle.io_edge.specs.Known.{Gains}
 use Rattle.line_runs.specs.Runs.{Run}
 use Rattle.session_core.specs.Machine.{Answers}
 use Rattle.session_core.specs.State.{State}
+use Rattle.wpinq_program.specs.declared.responder.Responder.{Responder}
 
 -- the replies as one text
 abbrev pub joined : List (List ℕ) → List ℕ
@@ -20,6 +21,14 @@ pub record Moment : Type 0 where
   pub lines : ℕ
   pub written : Option (List ℕ)
   pub given : Option (List (ℕ × ℤ))
+
+-- the moment of a run with this state
+abbrev pub moment : ℕ → Option (List ℕ) → Option (List (ℕ × ℤ)) → State → Moment
+moment lines written given state = record { state = state; lines = lines; written = written; given = given }
+
+-- the moment of a run with this responder
+abbrev pub responding : Responder → Option (List ℕ) → Option (List (ℕ × ℤ)) → Moment
+responding responder written given = moment responder.lines written given responder.session
 
 -- From old to new the machine ran over these lines, and what was written are its replies: all of them, or a proper front.
 pub record Served (old new : Moment) (lines : List (List ℕ)) (all : Bool) : Type 0 where
@@ -38,3 +47,7 @@ pub record ServedInPart (old new : Moment) (lines : List (List ℕ)) : Type 0 wh
   pub rest : List (List ℕ)
   pub front : lines ≡ done ++ rest
   pub served : Served old new done false
+
+-- what a piece's lines come to: all are served, or they are in part where the sink failed
+abbrev pub PieceServed : {E : Type 0} → Result (Unit {0}) E → Moment → Moment → List (List ℕ) → Type 0
+PieceServed result old new lines = MatchResult result (λ _. Served old new lines true) (λ _. ServedInPart old new lines)

@@ -1,6 +1,7 @@
 //! The line that is not whole yet.
-ghost use Rattle.std.specs.Prelude.{◌≡◌, ◌≤◌, ◌==◌, ℕ, List, [], ◌++◌, length, take, vec_len, vec_capacity, IfOk};
+ghost use Rattle.std.specs.Prelude.{◌≡◌, ◌==◌, [], ◌++◌, length, IfOk};
 ghost use Rattle.line_runs.specs.Lines.{without_cr};
+ghost use Rattle.wpinq_program.specs.Limits.{kept_of};
 
 use session_core::{MAX_LINE, Memory};
 use std::alloc::Global;
@@ -17,11 +18,14 @@ pub struct LineBuffer {
 }
 
 impl Model for LineBuffer {
+    ghost use Rattle.std.specs.Prelude.{◌≤◌, ℕ, List, vec_len, vec_capacity};
+    ghost use Rattle.wpinq_program.specs.Limits.{kept_len};
+
     ghost Value = { List ℕ };
 
     ghost view = { λ buffer. buffer.bytes.items };
 
-    ghost invariant = { λ buffer. (vec_len buffer.bytes ≤ 1048578) × (1048578 ≤ vec_capacity buffer.bytes) };
+    ghost invariant = { λ buffer. (vec_len buffer.bytes ≤ kept_len) × (kept_len ≤ vec_capacity buffer.bytes) };
 }
 
 impl LineBuffer {
@@ -34,7 +38,7 @@ impl LineBuffer {
 
     /// Appends the bytes, as many as are kept.
     pub fn extend(&mut self, bytes: &[u8])
-        ensures { self.new ≡ take 1048578 (self.old ++ bytes.now) }
+        ensures { self.new ≡ kept_of (self.old ++ bytes.now) }
     {
         let room = KEPT - self.bytes.len();
         let kept = bytes.len().min(room);

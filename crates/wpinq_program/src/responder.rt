@@ -1,9 +1,10 @@
 //! Answers lines one after another and writes their replies.
 ghost use Rattle.std.specs.Prelude.{◌≡◌, ◌+◌, ◌^◌, ◌-◌, ◌<◌, ◌≤◌, ℕ, List, [], ◌∷◌, length, take, is_ok, true, MatchResult, IfOk, OnOk};
 ghost use Rattle.io_edge.specs.Causes.{HasCause};
-ghost use Rattle.wpinq_program.specs.Served.{Served, ServedInPart};
+ghost use Rattle.wpinq_program.specs.Served.{PieceServed, Served, responding};
 ghost use Rattle.line_runs.specs.Lines.{whole_lines, open_line, last_line};
 ghost use Rattle.session_core.specs.State.{start_state};
+ghost use Rattle.wpinq_program.specs.Limits.{kept_of};
 
 use crate::line_buffer::LineBuffer;
 use crate::output::write_all;
@@ -48,10 +49,8 @@ impl Responder {
         steps: &mut Steps<L>,
     ) -> Result<(), Failed>
         requires { self.old.lines < 2 ^ 64 - 1 }
-        ensures served { Served
-            (record { state = self.old.session; lines = self.old.lines; written = K.written out.old; given = N.given noise.old })
-            (record { state = self.new.session; lines = self.new.lines; written = K.written out.new; given = N.given noise.new })
-            (line.now ∷ []) (is_ok result) }
+        ensures served { Served (responding self.old (K.written out.old) (N.given noise.old))
+            (responding self.new (K.written out.new) (N.given noise.new)) (line.now ∷ []) (is_ok result) }
         ensures cause { HasCause (K.faults out.old) (K.faults out.new) result }
         ensures lines { self.new.lines ≤ self.old.lines + 1 }
     {
@@ -79,17 +78,11 @@ impl Responder {
         steps: &mut Steps<L>,
     ) -> Result<(), Failed>
         requires { self.old.lines + length piece.now < 2 ^ 64 }
-        ensures served { (line : List ℕ) → begun.old ≡ take 1048578 line → MatchResult result
-            (λ _. Served
-            (record { state = self.old.session; lines = self.old.lines; written = K.written out.old; given = N.given noise.old })
-            (record { state = self.new.session; lines = self.new.lines; written = K.written out.new; given = N.given noise.new })
-            (whole_lines line piece.now) true)
-            (λ _. ServedInPart
-            (record { state = self.old.session; lines = self.old.lines; written = K.written out.old; given = N.given noise.old })
-            (record { state = self.new.session; lines = self.new.lines; written = K.written out.new; given = N.given noise.new })
-            (whole_lines line piece.now)) }
-        ensures begun { (line : List ℕ) → begun.old ≡ take 1048578 line
-            → OnOk result (begun.new ≡ take 1048578 (open_line line piece.now)) }
+        ensures served { (line : List ℕ) → begun.old ≡ kept_of line → PieceServed result
+            (responding self.old (K.written out.old) (N.given noise.old))
+            (responding self.new (K.written out.new) (N.given noise.new)) (whole_lines line piece.now) }
+        ensures begun { (line : List ℕ) → begun.old ≡ kept_of line
+            → OnOk result (begun.new ≡ kept_of (open_line line piece.now)) }
         ensures cause { HasCause (K.faults out.old) (K.faults out.new) result }
         ensures lines { self.new.lines ≤ self.old.lines + length piece.now }
     {
@@ -115,10 +108,9 @@ impl Responder {
         steps: &mut Steps<L>,
     ) -> Result<(), Failed>
         requires { self.old.lines < 2 ^ 64 - 1 }
-        ensures served { (line : List ℕ) → begun.now ≡ take 1048578 line → Served
-            (record { state = self.old.session; lines = self.old.lines; written = K.written out.old; given = N.given noise.old })
-            (record { state = self.new.session; lines = self.new.lines; written = K.written out.new; given = N.given noise.new })
-            (last_line line) (is_ok result) }
+        ensures served { (line : List ℕ) → begun.now ≡ kept_of line → Served
+            (responding self.old (K.written out.old) (N.given noise.old))
+            (responding self.new (K.written out.new) (N.given noise.new)) (last_line line) (is_ok result) }
         ensures cause { HasCause (K.faults out.old) (K.faults out.new) result }
     {
         if begun.is_empty() {

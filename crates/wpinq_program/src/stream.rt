@@ -2,6 +2,7 @@
 ghost use Rattle.std.specs.Prelude.{◌≡◌, ◌^◌, ◌<◌, ◌≤◌, [], length};
 ghost use Rattle.io_edge.specs.Causes.{Rose};
 ghost use Rattle.wpinq_program.specs.Outcome.{Streamed};
+ghost use Rattle.wpinq_program.specs.Served.{responding};
 
 use crate::input::{Beyond, read_beyond, read_some};
 use crate::line_buffer::LineBuffer;
@@ -36,9 +37,8 @@ pub fn serve_stream<S: Source, K: Sink, N: Noise, F: Shelf, L: Ledger>(
     requires begun { begun.old ≡ [] }
     requires lines { responder.old.lines ≡ 0 }
     ensures streamed { Streamed max (S.left src.old) (S.left src.new)
-        (record { state = responder.old.session; lines = responder.old.lines; written = K.written out.old; given = N.given noise.old })
-        (record { state = responder.new.session; lines = responder.new.lines; written = K.written out.new; given = N.given noise.new })
-        begun.new result }
+        (responding responder.old (K.written out.old) (N.given noise.old))
+        (responding responder.new (K.written out.new) (N.given noise.new)) begun.new result }
     ensures lines { responder.new.lines ≤ max }
     ensures later { K.faults out.old ≤ K.faults out.new }
     ensures read_fault { result ≡ Stop.ReadFault → Rose (S.faults src.old) (S.faults src.new) }

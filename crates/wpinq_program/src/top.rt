@@ -1,8 +1,10 @@
 //! The top call.
-ghost use Rattle.std.specs.Prelude.{◌≡◌, ◌⊎◌, ◌↔◌, ◌^◌, ◌<◌, ◌≤◌, ◌≢◌, [], length, false, unwrap_or, None, IfSome, IfOk};
+ghost use Rattle.std.specs.Prelude.{◌≡◌, ◌↔◌, ◌^◌, ◌<◌, ◌≤◌, ◌≢◌, [], length, false, unwrap_or, None, IfOk};
 ghost use Rattle.io_edge.specs.Causes.{Rose};
 ghost use Rattle.session_core.specs.State.{start_state};
-ghost use Rattle.wpinq_program.specs.Outcome.{Outcome, IsStatus};
+ghost use Rattle.wpinq_program.specs.Limits.{max_bytes, piece_len};
+ghost use Rattle.wpinq_program.specs.Outcome.{Outcome, IsComplete, IsStatus};
+ghost use Rattle.wpinq_program.specs.Served.{moment};
 ghost use Rattle.wpinq_program.specs.Words.{flag_of};
 
 use crate::line_buffer::LineBuffer;
@@ -55,10 +57,10 @@ pub fn wpinq<S: Source, K: Sink, N: Noise, F: Shelf>(
     shelf: &mut F,
 ) -> Ending
     // What each status says of the bytes taken, the lines answered and the replies written.
-    ensures outcome { Outcome 1048576 (S.left src.old) (S.left src.new)
-        (record { state = start_state (unwrap_or (flag_of words.now) false); lines = 0; written = K.written out.old; given = N.given noise.old })
-        (λ state. record { state = state; lines = result.lines; written = K.written out.new; given = N.given noise.new })
-        result.status }
+    ensures outcome { let state = start_state (unwrap_or (flag_of words.now) false) in
+        Outcome max_bytes (S.left src.old) (S.left src.new)
+        (moment 0 (K.written out.old) (N.given noise.old) state)
+        (moment result.lines (K.written out.new) (N.given noise.new)) result.status }
     ensures status { IsStatus result.status }
 
     // The cause of each.
@@ -67,8 +69,8 @@ pub fn wpinq<S: Source, K: Sink, N: Noise, F: Shelf>(
     ensures write_fault { result.status ≡ 4 → Rose (K.faults out.old) (K.faults out.new) }
 
     // Without a fault an input within the limit is answered to its end, unless there was no memory at the start.
-    ensures complete { flag_of words.now ≢ None → ¬ Rose (S.faults src.old) (S.faults src.new) → ¬ Rose (K.faults out.old) (K.faults out.new)
-        → IfSome (S.left src.old) (λ bytes. length bytes ≤ 1048576 → (result.status ≡ 0) ⊎ (result.status ≡ 5)) }
+    ensures complete { flag_of words.now ≢ None → ¬ Rose (S.faults src.old) (S.faults src.new)
+        → ¬ Rose (K.faults out.old) (K.faults out.new) → IsComplete max_bytes (S.left src.old) result.status }
 {
     let Some(curator) = flag_of(words) else {
         return Ending {
@@ -100,7 +102,7 @@ fn buffers(alloc: Global, curator: bool) -> Result<(Responder, LineBuffer, Vec<u
     ensures state { IfOk result (λ all. all.0.session ≡ start_state curator) }
     ensures lines { IfOk result (λ all. all.0.lines ≡ 0) }
     ensures begun { IfOk result (λ all. all.1 ≡ []) }
-    ensures piece { IfOk result (λ all. length all.2.items ≡ 65536) }
+    ensures piece { IfOk result (λ all. length all.2.items ≡ piece_len) }
 {
     let responder = Responder::new(alloc, curator)?;
     let begun = LineBuffer::new(alloc)?;
@@ -128,9 +130,8 @@ fn run<L: Ledger, S: Source, K: Sink, N: Noise, F: Shelf>(
     requires room { 0 < length piece.old }
     requires limit { max < 2 ^ 63 }
     ensures outcome { Outcome max (S.left src.old) (S.left src.new)
-        (record { state = responder.session; lines = 0; written = K.written out.old; given = N.given noise.old })
-        (λ state. record { state = state; lines = result.lines; written = K.written out.new; given = N.given noise.new })
-        result.status }
+        (moment 0 (K.written out.old) (N.given noise.old) responder.session)
+        (moment result.lines (K.written out.new) (N.given noise.new)) result.status }
     ensures status { IsStatus result.status }
     ensures words { result.status ≢ 2 }
     ensures read_fault { result.status ≡ 3 → Rose (S.faults src.old) (S.faults src.new) }

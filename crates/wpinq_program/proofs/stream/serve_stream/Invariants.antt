@@ -1,13 +1,14 @@
 use Rattle.std.proofs.Common.{◌≤◌, ◌-◌}
 use Rattle.wpinq_program.specs.Outcome.{Streaming}
+use Rattle.wpinq_program.specs.Served.{responding}
 use Rattle.wpinq_program.proofs.stream.serve_stream.Given as goal
 
 abbrev pub invariant-loop-total : goal.invariant-loop-total
 invariant-loop-total g l = record {
   within : l.total ≤ l.max;
   streaming : Streaming l.total (g.S.Source.left l.initial.src) (g.S.Source.left l.src)
-      (record { state = l.initial.responder.session; lines = l.initial.responder.lines; written = g.K.Sink.written l.initial.out; given = g.N.Noise.given l.initial.noise })
-      (record { state = l.responder.session; lines = l.responder.lines; written = g.K.Sink.written l.out; given = g.N.Noise.given l.noise })
+      (responding l.initial.responder (g.K.Sink.written l.initial.out) (g.N.Noise.given l.initial.noise))
+      (responding l.responder (g.K.Sink.written l.out) (g.N.Noise.given l.noise))
       l.begun;
   lines : l.responder.lines ≤ l.total;
   read : g.S.Source.faults l.initial.src ≤ g.S.Source.faults l.src;

@@ -1,5 +1,6 @@
-ghost use Rattle.std.specs.Prelude.{◌≡◌, ◌≢◌, ◌+◌, ◌^◌, ◌<◌, ◌↔◌, [], map, MatchOption, Some, None, Err, Contains};
+ghost use Rattle.std.specs.Prelude.{◌≡◌, ◌≢◌, ◌+◌, ◌<◌, ◌↔◌, [], map, MatchOption, Some, None, Err, IsSome, Contains};
 ghost use Rattle.io_edge.specs.Causes.{ShelfHasCause, capped};
+ghost use Rattle.io_edge.specs.Limits.{fetch_limit};
 ghost use Rattle.io_edge.specs.Shelf.{FetchOutcome, file_at};
 
 use crate::{Shelf, ShelfFault};
@@ -69,12 +70,13 @@ impl Shelf for MemShelf {
     ghost faults = { λ s. s.faults };
 
     fn fetch(&mut self, path: &[u8], max: usize, into: &mut Vec<u8>) -> Result<(), ShelfFault>
-        requires { max < 2 ^ 40 }
+        requires { max < fetch_limit }
         ensures gives { FetchOutcome (Some self.old.files) path.now max result into.new.items }
         ensures kept { self.new.files ≡ self.old.files }
         ensures cause { ShelfHasCause self.old.faults self.new.faults result }
 
         ensures fails { (result ≡ Err ShelfFault.Failed) ↔ Contains self.old.fails self.old.calls }
+        ensures memory { result ≡ Err ShelfFault.Memory → IsSome (file_at self.old.files path.now) }
         ensures failed { result ≡ Err ShelfFault.Failed
             → self.new ≡ record self.old {
               calls = capped (self.old.calls + 1);

@@ -1,6 +1,6 @@
 use Rattle.std.proofs.Common.{◌≡◌, drop, map}
 use Rattle.io_edge.specs.Shelf.{file_at}
-use Rattle.io_edge.proofs.shelf.find.Given as goal
+use Rattle.io_edge.proofs.mem_shelf.find.Given as goal
 
 -- the files from here on have the same file at the path as all of them
 abbrev pub invariant-loop-file : goal.invariant-loop-file

@@ -1,8 +1,8 @@
 use Rattle.std.proofs.Common.{rules, ◌≡◌, ◌+◌, ◌≤◌, ap, sym, ◌∙◌, take, drop, arith, length, Some, length-take}
 use Rattle.std.proofs.lemmas.List.{take-append-drop}
 use Rattle.io_edge.specs.Shelf.{file_at}
-use Rattle.io_edge.proofs.shelf.MemShelfShelf.fetch.Goals as goal
-use Rattle.io_edge.proofs.shelf.MemShelfShelf.fetch.Goals.{in-None, in-Some+in-Ok, in-Some+in-Err, in-Some-2+in-Ok-extend_from_slice, in-Some-2+in-Err-extend_from_slice}
+use Rattle.io_edge.proofs.mem_shelf.MemShelfShelf.fetch.Goals as goal
+use Rattle.io_edge.proofs.mem_shelf.MemShelfShelf.fetch.Goals.{in-None, in-Some+in-Ok, in-Some+in-Err, in-Some-2+in-Ok-extend_from_slice, in-Some-2+in-Err-extend_from_slice}
 
 pub returns-clause-gives : goal.returns-clause-gives
 returns-clause-gives c =

@@ -3,8 +3,8 @@ use Rattle.std.specs.Prelude.{Option, Some}
 use Rattle.std.specs.Cmp.Lexicographic.{pointwise}
 use Rattle.std.proofs.lemmas.List.{at_drop_more}
 use Rattle.io_edge.specs.Shelf.{file_at}
-use Rattle.io_edge.specs.declared.shelf.File.{File}
-use Rattle.io_edge.proofs.shelf.find.Goals as goal
+use Rattle.io_edge.specs.declared.mem_shelf.File.{File}
+use Rattle.io_edge.proofs.mem_shelf.find.Goals as goal
 
 -- the bytes of the first of the files at the path
 abbrev found : List ℕ → List File → Option (List ℕ)
