@@ -234,6 +234,17 @@ fn holds_steps_of_a_plan(rt: HostRuntime) -> Result<(), Fail> {
 }
 
 #[test]
+fn copies_a_plan(rt: HostRuntime) -> Result<(), Fail> {
+    let name = Name::read(b"people").ok_or("no name")?;
+    let plan = Plan::from_steps(steps_of(rt.alloc(), name)?);
+    let copy = plan.try_copy(rt.alloc())?;
+    assert!(rt; copy.len() == 2);
+    let step = copy.step(1).try_copy(rt.alloc())?;
+    assert!(rt; step.left() == Some(0) && step.right() == Some(0));
+    Ok(())
+}
+
+#[test]
 fn adds_and_drops_source_types(rt: HostRuntime) -> Result<(), Fail> {
     let name = Name::read(b"people").ok_or("no name")?;
     let kinds = Kinds::from_slice(&[Kind::Int]);
@@ -244,6 +255,8 @@ fn adds_and_drops_source_types(rt: HostRuntime) -> Result<(), Fail> {
         signed: true,
     })?;
     assert!(rt; types.len() == 1 && types.at(0).name == name && types.at(0).signed);
+    let copy = types.try_copy(rt.alloc())?;
+    assert!(rt; copy.len() == 1 && copy.at(0).name == name);
     types.drop_last();
     assert!(rt; types.len() == 0);
     Ok(())

@@ -127,6 +127,7 @@ fn names_are_found_where_a_table_has_them(rt: HostRuntime) {
 #[test]
 fn tables_have_a_row_for_each_primitive(rt: HostRuntime) {
     assert_eq!(rt; ONE.len() + TWO.len() + THREE.len(), 26);
+    assert_eq!(rt; row1(4).name, "len");
     assert_eq!(rt; row1(4).args, [Kind::Text]);
     assert_eq!(rt; row2(0).result, Kind::Int);
     assert_eq!(rt; row3(1).result, Kind::Text);
