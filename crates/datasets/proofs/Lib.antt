@@ -2,5 +2,12 @@ pub mod Rows
 pub mod Weights
 pub mod Equality
 pub mod Counts
+pub mod Members
+pub mod RowLists
+pub mod Rising
+pub mod Picks
+pub mod ByKey
+pub mod Covers
 pub mod Sizes
+pub mod Distances
 pub mod Added

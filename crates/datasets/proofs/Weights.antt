@@ -1,15 +1,15 @@
 -- The weights of datasets that are made from others.
-use Rattle.std.specs.Prelude.{◌≡◌, Bool, true, false, cond, [], ◌∷◌, Some, refl, unwrap_or}
+use Rattle.std.specs.Prelude.{◌≡◌, ◌≢◌, ◌||◌, Bool, true, false, cond, [], ◌∷◌, Some, refl, unwrap_or}
 use Rattle.std.specs.List.Sorted.{IsStrictlySortedBy}
 use Rattle.std.specs.Map.{lookup}
 use Rattle.std.specs.Ordering.{is_eq, match_ordering}
 use Rattle.std.specs.declared.cmp.Ordering.TheVariants.{Less, Equal, Greater}
-use Rattle.std.proofs.Common.{sym, ap, subst, ◌∙◌}
+use Rattle.std.proofs.Common.{sym, ap, subst, ◌∙◌, true≢false}
 use Rattle.std.proofs.lemmas.Bool.{or_parts}
 use Rattle.ratios.specs.Ratio.{Ratio, ratio_add, zero_ratio}
 use Rattle.record_text.specs.Order.{row_cmp}
 use Rattle.record_text.specs.OrderLaws.{row_tie}
-use Rattle.datasets.specs.Entries.{Row, same_row, has_row, Entries, rows_of, AreRising, weight_in, is_zero, in_front, set_in}
+use Rattle.datasets.specs.Entries.{Row, same_row, has_row, Entries, rows_of, AreRising, NoneZero, weight_in, is_zero, in_front, set_in}
 use Rattle.datasets.specs.Kept.{IsBelow, IsBelow-lower}
 use Rattle.datasets.specs.Dataset.{Dataset, at, rows, empty, set_at, add_at, dataset_of}
 use Rattle.datasets.proofs.Rows.{same_row-equal, zero_if_is_zero}
@@ -103,3 +103,18 @@ pub at-dataset_of : (es : Entries) (x : Row) → at (dataset_of es) x ≡ weight
 unfolding dataset_of
 at-dataset_of [] x = at-empty x
 at-dataset_of (e ∷ es) x = at-set_at e.0 e.1 (dataset_of es) x ∙ ap (cond (same_row x e.0) e.1) (at-dataset_of es x) ∙ sym (weight_in-cons x e es)
+
+-- ---- the rows that are there
+
+-- a row of entries without zeros has a weight other than 0
+weight_in-present : (es : Entries) (x : Row) → NoneZero es → has_row (rows_of es) x ≡ true → weight_in es x ≢ zero_ratio
+weight_in-present [] x n h z = true≢false (sym h)
+weight_in-present (e ∷ es) x n h z =
+    (elim (same_row x e.0) as (λ b. (b || has_row (rows_of es) x) ≡ true → cond b e.1 (weight_in es x) ≡ zero_ratio → ⊥) [ true ↦ λ _ k. n.0 k | false ↦ λ p k. weight_in-present es x n.1 p k ])
+    h (sym (weight_in-cons x e es) ∙ z)
+
+pub at-present : (A : Dataset) (x : Row) → has_row (rows A) x ≡ true → at A x ≢ zero_ratio
+at-present A x h = weight_in-present A.entries x A.none_zero h
+
+pub there_if_weighed : (A : Dataset) (x : Row) → at A x ≢ zero_ratio → has_row (rows A) x ≡ true
+there_if_weighed A x h = elim (has_row (rows A) x) as (λ b. has_row (rows A) x ≡ b → b ≡ true) [ true ↦ λ e. refl | false ↦ λ e. absurd (h (at-absent A x e)) ] refl

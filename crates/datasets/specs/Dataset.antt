@@ -1,9 +1,9 @@
 -- Datasets: rows with weights other than 0, and what is done with them.
-use Rattle.std.specs.Prelude.{Bool, List, [], ◌∷◌, map, fold, ℕ, Option, not}
+use Rattle.std.specs.Prelude.{Bool, List, [], ◌∷◌, filter, map, fold, ℕ, Option, not}
 use Rattle.std.specs.List.{position_from}
 use Rattle.std.specs.List.Sorted.{IsStrictlySortedBy}
-use Rattle.std.specs.Ordering.{match_ordering}
-use Rattle.ratios.specs.Ratio.{Ratio, ratio_abs, ratio_add, is_below, ratio_sub, zero_ratio}
+use Rattle.std.specs.Ordering.{is_ne, match_ordering}
+use Rattle.ratios.specs.Ratio.{Ratio, ratio_abs, is_below, ratio_add, ratio_cmp, ratio_sub, zero_ratio}
 use Rattle.ratios.specs.Range.{in_range}
 use Rattle.ratios.specs.Sums.{ratio_sum}
 use Rattle.record_text.specs.Order.{row_cmp}
@@ -48,13 +48,21 @@ with_rows (x ∷ xs) ys = with_row x (with_rows xs ys)
 abbrev pub rows_of_either : Dataset → Dataset → List Row
 rows_of_either A B = with_rows (rows A) (rows B)
 
--- how far the two weights are apart at each row of A or of B, in row order
+-- how far the two weights of a row are apart
+abbrev pub apart : Dataset → Dataset → Row → Ratio
+apart A B x = ratio_abs (ratio_sub (at A x) (at B x))
+
+-- that at each row of A or of B, in row order
 abbrev pub dist_terms : Dataset → Dataset → List Ratio
-dist_terms A B = map (λ x. ratio_abs (ratio_sub (at A x) (at B x))) (rows_of_either A B)
+dist_terms A B = map (apart A B) (rows_of_either A B)
 
 -- the sum of these differences
 abbrev pub dist : Dataset → Dataset → Ratio
 dist A B = ratio_sum (dist_terms A B)
+
+-- the rows of other weight in A than in B, in order
+abbrev pub differing : Dataset → Dataset → List Row
+differing A B = filter (λ x. is_ne (ratio_cmp (at A x) (at B x))) (rows_of_either A B)
 
 -- ---- changes
 

@@ -7,11 +7,11 @@ use Rattle.std.proofs.Common.{sym, ap, subst, ◌∙◌}
 use Rattle.std.proofs.lemmas.List.Elements.{recursion_from_All}
 use Rattle.std.proofs.lemmas.Map.Made.{lookup-map_values}
 use Rattle.ratios.specs.Ratio.{ratio, zero_ratio}
+use Rattle.ratios.proofs.Products.{ratio_of_none}
 use Rattle.datasets.specs.Dataset.{Dataset}
 use Rattle.datasets.specs.Entries.{AreRising, NoneZero, Row, rows_of, same_row, weight_in}
 use Rattle.datasets.proofs.Equality.{same_weights}
 use Rattle.operators.specs.Operators.{Giving, divisor}
-use Rattle.operators.proofs.Products.{ratio_of_none}
 use Rattle.op_linear.specs.Many.{shares}
 use Rattle.op_linear.specs.ManyLaws.{at-shares}
 use Rattle.op_linear.specs.Shares.{AreAboveZero, RowSums, divided, given, sum_at}

@@ -8,9 +8,9 @@ use Rattle.ratios.specs.Gcd.{gcd}
 use Rattle.ratios.specs.Range.{InRange}
 use Rattle.ratios.specs.Ratio.{ratio, zero_ratio}
 use Rattle.ratios.specs.Reduced.{unsigned_abs-int_div}
-use Rattle.ratios.proofs.Additive.{over_zero}
 use Rattle.ratios.proofs.Over.{IsOver, over_ratio, same_numerator}
 use Rattle.ratios.proofs.Range.{InRange-from_bounds, checked-in}
+use Rattle.ratios.proofs.Parts.{over_zero}
 use Rattle.frac_core.specs.Quotient.{quotient_of}
 use Rattle.frac_core.specs.declared.FracFault.TheVariants as fault
 

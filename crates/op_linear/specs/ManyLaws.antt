@@ -8,25 +8,26 @@ use Rattle.ratios.specs.Range.{InRange, all_in_range, in_range}
 use Rattle.ratios.specs.Ratio.{Ratio, ratio, ratio_add, ratio_mul, zero_ratio}
 use Rattle.ratios.specs.Sums.{ratio_sum, runs_in_range}
 use Rattle.ratios.proofs.Additive.{ratio_zero_add}
-use Rattle.ratios.proofs.Products.{ratio_mul_zero, ratio_zero_mul}
+use Rattle.ratios.proofs.Products.{ratio_mul_zero, ratio_of_none, ratio_zero_mul}
 use Rattle.ratios.proofs.SumLaws.{ratio_sum-cons}
 use Rattle.datasets.specs.Dataset.{Dataset, at, rows}
 use Rattle.datasets.specs.Entries.{Row, has_row, is_zero, same_row}
 use Rattle.datasets.specs.Kept.{is_zero-zero_ratio}
 use Rattle.datasets.proofs.Rows.{same_row-itself, zero_if_is_zero}
 use Rattle.datasets.proofs.Weights.{at-absent, at-empty}
+use Rattle.datasets.proofs.RowLists.{has_row-filter}
+use Rattle.datasets.proofs.Members.{at-member}
 use Rattle.operators.specs.InRange.{made_rows, many_in_range, products}
 use Rattle.operators.specs.Operators.{Giving, applying, divisor, factor, spread, weight_of}
-use Rattle.operators.proofs.Products.{ratio_of_none}
 use Rattle.operators.proofs.Shares.{at-spread}
-use Rattle.operators.proofs.Tabulated.{at-tabulated-everywhere, has_row-filter}
+use Rattle.operators.proofs.Tabulated.{at-tabulated-everywhere}
 use Rattle.plan_model.specs.Evaluation.{giving}
 use Rattle.weighted_set.specs.Held.{AllInRange}
 use Rattle.weighted_set.specs.Parts.{FactoredInRange, part_of}
 use Rattle.weighted_set.specs.declared.part_op.Side.TheVariants.{Left, Right}
 use Rattle.weighted_set.proofs.Parts.{FactoredInRange-ones}
 use Rattle.weighted_set.proofs.Sets.{InRange-zero}
-use Rattle.op_parts.proofs.Members.{AllByRecursion-from_list_all, at-member, list_all-everywhere}
+use Rattle.op_parts.proofs.Members.{AllByRecursion-from_list_all, list_all-everywhere}
 use Rattle.op_parts.proofs.OneRows.{at-one_row}
 use Rattle.op_parts.proofs.PartEntries.{weights-part_of}
 use Rattle.op_parts.proofs.Ranges.{AllInRange-tested, weights_in_range-all}

@@ -9,13 +9,14 @@ use Rattle.ratios.proofs.Products.{ratio_mul_one}
 use Rattle.datasets.specs.Dataset.{Dataset, at, rows}
 use Rattle.datasets.specs.Entries.{Row, has_row, is_zero, same_row}
 use Rattle.datasets.specs.Kept.{is_zero-zero_ratio}
+use Rattle.datasets.proofs.Members.{at-member}
 use Rattle.operators.specs.InRange.{select_in_range}
 use Rattle.operators.specs.Operators.{select_terms}
 use Rattle.operators.specs.Weights.{weights_for}
 use Rattle.weighted_set.specs.Parts.{part_of}
 use Rattle.weighted_set.proofs.Sets.{InRange-zero}
 use Rattle.op_parts.specs.OneRow.{one_row}
-use Rattle.op_parts.proofs.Members.{AllByRecursion-from_list_all, at-member, list_all-everywhere}
+use Rattle.op_parts.proofs.Members.{AllByRecursion-from_list_all, list_all-everywhere}
 use Rattle.op_parts.proofs.OneRows.{at-one_row, is_zero-one_ratio}
 use Rattle.op_parts.proofs.PartEntries.{weights-part_of}
 use Rattle.op_linear.specs.Summed.{weights}

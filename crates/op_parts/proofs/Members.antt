@@ -1,22 +1,13 @@
--- What holds of each member of a list, by the test of being one.
-use Rattle.std.specs.Prelude.{◌≡◌, ◌≢◌, Bool, true, false, ◌&&◌, ◌||◌, List, [], ◌∷◌, refl}
+-- What holds of each row that has a weight, and of each member by a test.
+use Rattle.std.specs.Prelude.{◌≡◌, ◌≢◌, Bool, true, false, ◌&&◌, List, [], ◌∷◌, refl}
 use Rattle.std.specs.List.{AllByRecursion, list_all}
-use Rattle.std.proofs.Common.{sym, ap₂, subst, true≢false}
+use Rattle.std.proofs.Common.{ap₂}
 use Rattle.std.proofs.lemmas.Bool.{and_parts}
 use Rattle.ratios.specs.Ratio.{zero_ratio}
 use Rattle.datasets.specs.Dataset.{Dataset, at, rows}
-use Rattle.datasets.specs.Entries.{Row, has_row, same_row}
-use Rattle.datasets.proofs.Rows.{same_row-equal}
+use Rattle.datasets.specs.Entries.{Row, has_row}
+use Rattle.datasets.proofs.Members.{at-member}
 use Rattle.datasets.proofs.Weights.{at-absent}
-
--- what holds of each member holds of a row that is one
-pub at-member : (P : Row → Type 0) (xs : List Row) (x : Row) → AllByRecursion P xs → has_row xs x ≡ true → P x
-at-member P [] x h there = absurd (true≢false (sym there))
-at-member P (y ∷ ys) x h there = here (same_row x y) (same_row-equal x y) there (at-member P ys x h.1)
-  where
-    here : (b : Bool) → (b ≡ true → x ≡ y) → (b || has_row ys x) ≡ true → (has_row ys x ≡ true → P x) → P x
-    here true same t later = subst P (sym (same refl)) h.0
-    here false same t later = later t
 
 -- what holds of each row of a dataset holds of a row with a weight
 pub at-weighed : (P : Row → Type 0) (A : Dataset) (x : Row) → AllByRecursion P (rows A) → at A x ≢ zero_ratio → P x

@@ -5,10 +5,10 @@ use Rattle.std.proofs.Common.{sym, ap, ap₂, subst, ◌∙◌, arith, mul-pos}
 use Rattle.std.proofs.lemmas.Int.{ints, unsigned_abs-mul}
 use Rattle.std.proofs.lemmas.Simd.{map-map}
 use Rattle.ratios.specs.Ratio.{Ratio, ratio_mul, zero_ratio}
-use Rattle.ratios.proofs.Additive.{over_zero}
 use Rattle.ratios.proofs.Crossing.{num_not_zero}
 use Rattle.ratios.proofs.Over.{IsOver, over_itself, over_mul, same_numerator}
 use Rattle.ratios.proofs.Products.{ratio_mul_zero}
+use Rattle.ratios.proofs.Parts.{over_zero}
 use Rattle.datasets.specs.Dataset.{Dataset, at, rows}
 use Rattle.datasets.specs.Entries.{AreRising, Entries, NoneZero, Row, is_zero, rows_of}
 use Rattle.datasets.specs.Kept.{is_zero-zero_ratio}

@@ -7,10 +7,11 @@ use Rattle.ratios.specs.Ratio.{zero_ratio}
 use Rattle.datasets.specs.Dataset.{Dataset, at, rows}
 use Rattle.datasets.specs.Entries.{has_row}
 use Rattle.datasets.proofs.Weights.{at-absent}
+use Rattle.datasets.proofs.Members.{at-member}
 use Rattle.operators.specs.InRange.{weights_in_range}
 use Rattle.weighted_set.specs.Held.{AllInRange}
 use Rattle.weighted_set.proofs.Sets.{InRange-zero}
-use Rattle.op_parts.proofs.Members.{AllByRecursion-from_list_all, at-member, list_all-everywhere}
+use Rattle.op_parts.proofs.Members.{AllByRecursion-from_list_all, list_all-everywhere}
 
 -- the test passes where all weights are in range
 pub weights_in_range-all : (A : Dataset) → AllInRange A → weights_in_range A ≡ true

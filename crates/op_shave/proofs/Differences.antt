@@ -5,9 +5,9 @@ use Rattle.std.specs.declared.cmp.Ordering.TheVariants.{Less, Equal, Greater}
 use Rattle.std.proofs.Common.{arith, sym, ap, ◌∙◌}
 use Rattle.std.proofs.lemmas.Int.{by_lt_z, ints}
 use Rattle.ratios.specs.Ratio.{Ratio, is_below, ratio_add, ratio_sub, zero_ratio}
-use Rattle.ratios.proofs.Additive.{over_zero}
 use Rattle.ratios.proofs.Order.{cmp_over, three}
 use Rattle.ratios.proofs.Over.{over_add, over_as, over_itself, over_sub, same_over}
+use Rattle.ratios.proofs.Parts.{over_zero}
 
 pub ratio_sub_zero : (q : Ratio) → ratio_sub q zero_ratio ≡ q
 ratio_sub_zero q =

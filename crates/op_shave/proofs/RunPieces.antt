@@ -6,9 +6,9 @@ use Rattle.std.proofs.lemmas.Bool.{and_parts}
 use Rattle.std.proofs.lemmas.List.{append-nil, length-append, length-replicate, replicate-append-replicate, take-append-drop}
 use Rattle.std.proofs.lemmas.List.Concat.{flat_map-append}
 use Rattle.std.proofs.lemmas.List.Sums.{sum_by-cons}
+use Rattle.datasets.proofs.Members.{AllByRecursion-append}
 use Rattle.ratios.specs.Ratio.{Ratio, is_below, zero_ratio}
 use Rattle.record_text.proofs.Lists.{front_more, passes_at, rest_from}
-use Rattle.operators.proofs.Members.{AllByRecursion-append}
 use Rattle.plan_model.specs.Evaluation.{pieces}
 use Rattle.plan_model.specs.Limits.{is_run}
 use Rattle.plan_model.specs.Pieces.{piece_count}

@@ -10,8 +10,8 @@ use Rattle.ratios.specs.Range.{InRange, checked, in_range}
 use Rattle.ratios.specs.Ratio.{Ratio, is_below, ratio_min, zero_ratio}
 use Rattle.ratios.proofs.Range.{checked-in, checked_none, checked_some, in_range-out}
 use Rattle.datasets.specs.Entries.{Entries, Row}
+use Rattle.datasets.proofs.Members.{AllByRecursion-append}
 use Rattle.operators.specs.Operators.{numbered}
-use Rattle.operators.proofs.Members.{AllByRecursion-append}
 use Rattle.weighted_set.proofs.Sets.{InRange-zero}
 use Rattle.op_shave.specs.Shavings.{AreShaved, left_after, left_in_range, left_of, shavings}
 use Rattle.op_shave.proofs.Above.{is_below-itself, left_of-none}

@@ -8,13 +8,14 @@ use Rattle.ratios.specs.Sums.{ratio_sum}
 use Rattle.datasets.specs.Dataset.{at, rows}
 use Rattle.datasets.specs.Entries.{Row, has_row, same_row}
 use Rattle.datasets.proofs.Rows.{same_row-equal}
+use Rattle.datasets.proofs.Members.{AllByRecursion-everywhere}
+use Rattle.datasets.proofs.RowLists.{has_row-filter}
 use Rattle.operators.specs.Laws.{GroupElsewhere, JoinElsewhere, ShaveElsewhere}
 use Rattle.operators.specs.Operators.{both_rows, cells, group_row, half_gap, joint_weight, key_levels, keys, levels, matches, numbered, part, piece}
 use Rattle.operators.specs.Weights.{gathered, weights_for}
 use Rattle.operators.proofs.Gathered.{at-gathered}
-use Rattle.operators.proofs.Members.{AllByRecursion-everywhere, AllByRecursion-pairs, AllByRecursion-range_with_len}
+use Rattle.operators.proofs.Members.{AllByRecursion-pairs, AllByRecursion-range_with_len}
 use Rattle.operators.proofs.SingleWeights.{AllByRecursion-has_row}
-use Rattle.operators.proofs.Tabulated.{has_row-filter}
 
 -- no member gives the row z
 pub weights_for-none : {X : Type 0} (row : X → Row) (weight : X → Ratio) (xs : List X) (z : Row) → AllByRecursion (λ x. z ≢ row x) xs → weights_for row weight xs z ≡ []

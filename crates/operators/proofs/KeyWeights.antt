@@ -1,9 +1,5 @@
 -- What a group weighs at a key followed by an atom.
 use Rattle.std.specs.Prelude.{◌≡◌, ◌≢◌, true, false, cond, filter, length, List, [], ◌∷◌, ◌++◌, map, refl}
-use Rattle.std.specs.List.{AllByRecursion}
-use Rattle.std.specs.List.Sorted.{IsStrictlySortedBy}
-use Rattle.std.specs.Ordering.{match_ordering}
-use Rattle.std.specs.declared.cmp.Ordering.TheVariants.{Less, Equal, Greater}
 use Rattle.std.proofs.Common.{arith, inl, inr, sym, ap, ap₂, ◌∙◌, true≢false}
 use Rattle.std.proofs.lemmas.Bool.{false_from_ne_true}
 use Rattle.std.proofs.lemmas.List.{length-append}
@@ -11,43 +7,20 @@ use Rattle.ratios.specs.Ratio.{Ratio, ratio_add, ratio_half, zero_ratio}
 use Rattle.ratios.specs.Sums.{ratio_sum}
 use Rattle.ratios.proofs.Additive.{ratio_add_zero, ratio_zero_add}
 use Rattle.ratios.proofs.SumLaws.{ratio_sum-cons}
-use Rattle.record_text.specs.Order.{row_cmp}
-use Rattle.record_text.specs.OrderLaws.{row_total}
 use Rattle.record_text.specs.declared.atom.Atom.{Atom}
-use Rattle.datasets.specs.Dataset.{rows, with_row, with_rows}
-use Rattle.datasets.specs.Entries.{AreRising, Row, has_row, same_row}
-use Rattle.datasets.specs.Kept.{less_turned}
+use Rattle.datasets.specs.Dataset.{rows}
+use Rattle.datasets.specs.Entries.{Row, same_row}
 use Rattle.datasets.proofs.Rows.{same_row-equal, same_row-itself}
+use Rattle.datasets.proofs.Members.{AllByRecursion-everywhere}
+use Rattle.datasets.proofs.Rising.{AreRising-none}
+use Rattle.datasets.proofs.RowLists.{AreRising-with_rows}
 use Rattle.operators.specs.Laws.{GroupAtKey}
 use Rattle.operators.specs.Operators.{gap, group_row, half_gap, key_levels, keys, levels, part, top}
 use Rattle.operators.specs.Weights.{weights_for}
 use Rattle.operators.proofs.Elsewhere.{weights_for-none}
 use Rattle.operators.proofs.Gathered.{at-gathered, ratio_sum-pairs}
-use Rattle.operators.proofs.Members.{AllByRecursion-everywhere}
 use Rattle.operators.proofs.Once.{HasNowhere, HasOnce, HasOnce-rising}
-use Rattle.operators.proofs.OutputRows.{AllByRecursion-with_row}
 use Rattle.operators.proofs.SingleWeights.{same_backs, same_fronts}
-
--- ---- the keys are distinct
-
-AreRising-with_row : (x : Row) (ys : List Row) → AreRising ys → AreRising (with_row x ys)
-unfolding IsStrictlySortedBy
-AreRising-with_row x [] h = (tt, tt)
-AreRising-with_row x (y ∷ ys) h =
-    elim (row_cmp x y) as (λ o. row_cmp x y ≡ o → AreRising (match_ordering o (x ∷ y ∷ ys) (y ∷ ys) (y ∷ with_row x ys))) [
-      | Less ↦ λ p. ((p, lower p ys h.0), h)
-      | Equal ↦ λ p. h
-      | Greater ↦ λ p. (AllByRecursion-with_row (λ z. row_cmp y z ≡ Less) x ys (less_turned x y p) h.0, AreRising-with_row x ys h.1)
-    ] refl
-  where
-    lower : row_cmp x y ≡ Less → (zs : List Row) → AllByRecursion (λ z. row_cmp y z ≡ Less) zs → AllByRecursion (λ z. row_cmp x z ≡ Less) zs
-    lower p [] k = tt
-    lower p (z ∷ zs) k = (row_total.trans x y z p k.0, lower p zs k.1)
-
-AreRising-with_rows : (xs : List Row) → AreRising (with_rows xs [])
-unfolding IsStrictlySortedBy
-AreRising-with_rows [] = tt
-AreRising-with_rows (x ∷ xs) = AreRising-with_row x (with_rows xs []) (AreRising-with_rows xs)
 
 -- ---- sums to which one member alone adds
 
@@ -97,5 +70,5 @@ group_at_key key reduce A k a there =
     (λ t e. apart (sym (same_fronts k l (a ∷ []) (reduce (top (part key l A) t) ∷ []) (same_key k l a _ e) e))))) in
     at-gathered (group_row key reduce A) (half_gap key A) (key_levels key A) z
     ∙ ratio_sum-pairs (group_row key reduce A) (half_gap key A) (λ l. levels (part key l A)) (keys key A) z
-    ∙ sum_once weigh k other (keys key A) (HasOnce-rising (keys key A) k (AreRising-with_rows (map key (rows A))) there)
+    ∙ sum_once weigh k other (keys key A) (HasOnce-rising (keys key A) k (AreRising-with_rows (map key (rows A)) [] AreRising-none) there)
     ∙ ap ratio_sum (weights_for-after k (λ t. reduce (top (part key k A) t)) (λ t. ratio_half (gap (part key k A) t)) (levels (part key k A)) a)

@@ -8,8 +8,8 @@ use Rattle.ratios.specs.Ratio.{Ratio, is_at_most, ratio_cmp}
 use Rattle.ratios.proofs.AtMost.{at_most_itself}
 use Rattle.datasets.specs.Dataset.{Dataset, at, rows}
 use Rattle.datasets.specs.Entries.{Row}
+use Rattle.datasets.proofs.Members.{AllByRecursion-everywhere, AllByRecursion-map, AllByRecursion-weaker}
 use Rattle.operators.specs.Operators.{levels, top, with_level, with_levels}
-use Rattle.operators.proofs.Members.{AllByRecursion-everywhere, AllByRecursion-map, AllByRecursion-weaker}
 
 pub AllByRecursion-with_level : (P : Ratio → Type 0) (t : Ratio) (us : List Ratio) → P t → AllByRecursion P us → AllByRecursion P (with_level t us)
 AllByRecursion-with_level P t [] p h = (p, tt)

@@ -1,8 +1,6 @@
 pub mod Gathered
 pub mod Tabulated
-pub mod Products
 pub mod Shares
-pub mod Signs
 pub mod Members
 pub mod Levels
 pub mod OutputRows

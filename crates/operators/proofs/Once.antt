@@ -8,8 +8,9 @@ use Rattle.std.proofs.lemmas.Bool.{false_from_ne_true}
 use Rattle.record_text.specs.Order.{row_cmp}
 use Rattle.datasets.specs.Entries.{AreRising, Row, has_row, same_row}
 use Rattle.datasets.proofs.Rows.{different_if_less, same_row-equal, same_row-itself}
+use Rattle.datasets.proofs.Members.{AllByRecursion-append, AllByRecursion-everywhere, AllByRecursion-map, AllByRecursion-weaker}
 use Rattle.operators.specs.Weights.{pairs}
-use Rattle.operators.proofs.Members.{AllByRecursion-append, AllByRecursion-everywhere, AllByRecursion-map, AllByRecursion-pairs, AllByRecursion-range_with_len, AllByRecursion-weaker}
+use Rattle.operators.proofs.Members.{AllByRecursion-pairs, AllByRecursion-range_with_len}
 
 -- no member of the list is x
 abbrev pub HasNowhere : {X : Type 0} → X → List X → Type 0

@@ -7,12 +7,14 @@ use Rattle.std.proofs.Common.{arith}
 use Rattle.ratios.specs.Ratio.{Ratio}
 use Rattle.record_text.specs.Order.{row_cmp}
 use Rattle.record_text.specs.declared.atom.Atom.{Atom}
-use Rattle.datasets.specs.Dataset.{Dataset, add_at, at, dataset_of, empty, rows, rows_of_either, set_at, with_added, with_row, with_rows}
+use Rattle.datasets.specs.Dataset.{Dataset, add_at, at, dataset_of, empty, rows, rows_of_either, set_at, with_added}
 use Rattle.datasets.specs.Entries.{Entries, Row, in_front, is_zero, rows_of, same_row, set_in}
+use Rattle.datasets.proofs.RowLists.{AllByRecursion-with_rows}
+use Rattle.datasets.proofs.Members.{AllByRecursion-filter, AllByRecursion-map, AllByRecursion-weaker}
 use Rattle.operators.specs.Weights.{gathered, tabulated}
 use Rattle.operators.specs.Operators.{Giving, applying, both_rows, cells, filtered, group_row, grouped, half_gap, joined, joint_weight, key_levels, keys, levels, matches, numbered, part, piece, pointwise, pointwise_weight, selected, shaved, spread, top}
 use Rattle.operators.proofs.Levels.{levels_have_tops}
-use Rattle.operators.proofs.Members.{AllByRecursion-filter, AllByRecursion-map, AllByRecursion-pairs, AllByRecursion-range_with_len, AllByRecursion-weaker}
+use Rattle.operators.proofs.Members.{AllByRecursion-pairs, AllByRecursion-range_with_len}
 
 -- P holds of each row of a dataset
 abbrev pub AllRows : (Row → Type 0) → Dataset → Type 0
@@ -56,24 +58,13 @@ module _ (P : Row → Type 0) where
   pub AllRows-gathered : {X : Type 0} (row : X → Row) (weight : X → Ratio) (xs : List X) → AllByRecursion (λ x. P (row x)) xs → AllRows P (gathered row weight xs)
   AllRows-gathered row weight xs h = AllRows-with_added empty (map (λ x. (row x, weight x)) xs) AllRows-empty (AllByRecursion-map (λ e. P e.0) (λ x. (row x, weight x)) xs h)
 
-  -- ---- rows of either
-
-  pub AllByRecursion-with_row : (x : Row) (ys : List Row) → P x → AllByRecursion P ys → AllByRecursion P (with_row x ys)
-  AllByRecursion-with_row x [] p h = (p, tt)
-  AllByRecursion-with_row x (y ∷ ys) p h =
-      elim (row_cmp x y) as (λ o. AllByRecursion P (match_ordering o (x ∷ y ∷ ys) (y ∷ ys) (y ∷ with_row x ys))) [ Less ↦ (p, h) | Equal ↦ h | Greater ↦ (h.0, AllByRecursion-with_row x ys p h.1) ]
-
-  pub AllByRecursion-with_rows : (xs ys : List Row) → AllByRecursion P xs → AllByRecursion P ys → AllByRecursion P (with_rows xs ys)
-  AllByRecursion-with_rows [] ys h k = k
-  AllByRecursion-with_rows (x ∷ xs) ys h k = AllByRecursion-with_row x (with_rows xs ys) h.0 (AllByRecursion-with_rows xs ys h.1 k)
-
   -- ---- operators that give rows they take
 
   pub AllRows-filtered : (test : Row → Bool) (A : Dataset) → AllRows P A → AllRows P (filtered test A)
   AllRows-filtered test A h = AllRows-tabulated (at A) (filter test (rows A)) (AllByRecursion-filter P test (rows A) h)
 
   pub AllRows-pointwise : (op : Ratio → Ratio → Ratio) (A B : Dataset) → AllRows P A → AllRows P B → AllRows P (pointwise op A B)
-  AllRows-pointwise op A B h k = AllRows-tabulated (pointwise_weight op A B) (rows_of_either A B) (AllByRecursion-with_rows (rows A) (rows B) h k)
+  AllRows-pointwise op A B h k = AllRows-tabulated (pointwise_weight op A B) (rows_of_either A B) (AllByRecursion-with_rows P (rows A) (rows B) h k)
 
 -- ---- operators that make rows: P of the rows taken, Q of the rows given
 

@@ -2,7 +2,7 @@
 use Rattle.std.specs.Prelude.{◌≡◌, ℕ, pos, true, false, cond, filter, List, [], ◌∷◌, map, refl}
 use Rattle.std.proofs.Common.{sym, ap, ap₂, ◌∙◌}
 use Rattle.std.proofs.lemmas.List.Sums.{sum_by-cons}
-use Rattle.ratios.proofs.Products.{ratio_mul_zero}
+use Rattle.ratios.proofs.Products.{ratio_mul_add, ratio_mul_zero, ratio_of_both, ratio_of_none}
 use Rattle.ratios.specs.Ratio.{Ratio, ratio, ratio_add, ratio_mul}
 use Rattle.ratios.specs.Sums.{ratio_sum}
 use Rattle.ratios.proofs.SumLaws.{ratio_sum-cons}
@@ -11,7 +11,6 @@ use Rattle.datasets.specs.Entries.{Row, same_row}
 use Rattle.operators.specs.Weights.{pairs, weights_for}
 use Rattle.operators.specs.Operators.{Giving, applying, divisor, factor, many_weight, spread, weight_of}
 use Rattle.operators.proofs.Gathered.{at-gathered, ratio_sum-pairs}
-use Rattle.operators.proofs.Products.{ratio_mul_add, ratio_of_both, ratio_of_none}
 
 -- the shares of the items that give z are the share of their weight
 shares : (y z : Row) (w : Ratio) (d : ℕ) (is : List Giving) →

@@ -14,13 +14,14 @@ use Rattle.record_text.specs.declared.atom.Atom.TheVariants.{Int}
 use Rattle.datasets.specs.Dataset.{at, rows}
 use Rattle.datasets.specs.Entries.{Row, has_row, same_row}
 use Rattle.datasets.proofs.Rows.{same_row-equal, same_row-itself}
+use Rattle.datasets.proofs.Members.{AllByRecursion-everywhere, AllByRecursion-weaker}
+use Rattle.datasets.proofs.RowLists.{has_row-filter}
 use Rattle.operators.specs.Laws.{JoinPairs, ShavePieces}
 use Rattle.operators.specs.Operators.{both_rows, cells, joint_weight, matches, numbered, piece}
 use Rattle.operators.specs.Weights.{gathered}
 use Rattle.operators.proofs.Gathered.{at-gathered}
-use Rattle.operators.proofs.Members.{AllByRecursion-everywhere, AllByRecursion-pairs, AllByRecursion-weaker}
+use Rattle.operators.proofs.Members.{AllByRecursion-pairs}
 use Rattle.operators.proofs.Once.{HasOnce, HasOnce-pairs, HasOnce-range_with_len, HasOnce-rising, filter-once}
-use Rattle.operators.proofs.Tabulated.{has_row-filter}
 
 -- the row of a member weighs what the member does, where the list has it once and no other member gives that row
 at-gathered-once : {X : Type 0} (row : X → Row) (weight : X → Ratio) (x : X) (xs : List X) → AllByRecursion (λ y. row y ≡ row x → y ≡ x) xs → HasOnce x xs → at (gathered row weight xs) (row x) ≡ weight x

@@ -1,62 +1,15 @@
 -- The weights of a dataset that is given row by row.
 use Rattle.std.specs.Prelude.{◌≡◌, Bool, true, false, cond, ◌&&◌, ◌||◌, filter, List, [], ◌∷◌, map, refl}
-use Rattle.std.specs.Ordering.{match_ordering}
-use Rattle.std.specs.declared.cmp.Ordering.TheVariants.{Less, Equal, Greater}
-use Rattle.std.proofs.Common.{sym, ap, ap₂, subst, ◌∙◌}
-use Rattle.std.proofs.Math.Bool.{and-false, or_assoc}
+use Rattle.std.proofs.Common.{sym, ap, ap₂, ◌∙◌}
 use Rattle.std.proofs.lemmas.Bool.{or_parts}
 use Rattle.ratios.specs.Ratio.{Ratio, zero_ratio}
-use Rattle.record_text.specs.Order.{row_cmp}
-use Rattle.record_text.specs.OrderLaws.{row_tie}
-use Rattle.datasets.specs.Dataset.{Dataset, at, rows, rows_of_either, with_row, with_rows}
+use Rattle.datasets.specs.Dataset.{Dataset, at, rows, rows_of_either}
 use Rattle.datasets.specs.Entries.{Row, has_row, same_row, weight_in}
 use Rattle.datasets.proofs.Rows.{same_row-equal}
+use Rattle.datasets.proofs.RowLists.{has_row-filter, has_row-with_rows}
 use Rattle.datasets.proofs.Weights.{at-absent, at-dataset_of, weight_in-cons}
 use Rattle.operators.specs.Weights.{tabulated}
 use Rattle.operators.specs.Operators.{filter_weight, filtered, pointwise, pointwise_weight}
-
--- ---- which rows a list has
-
-pub has_row-filter : (test : Row → Bool) (xs : List Row) (z : Row) → has_row (filter test xs) z ≡ (test z && has_row xs z)
-has_row-filter test [] z = sym (and-false (test z))
-has_row-filter test (x ∷ xs) z =
-    elim (test x) as (λ b. test x ≡ b → has_row (cond b (x ∷ filter test xs) (filter test xs)) z ≡ (test z && (same_row z x || has_row xs z))) [
-      | true ↦ λ p. ap (λ b. same_row z x || b) (has_row-filter test xs z) ∙ passes (same_row z x) (test z) (λ e. ap test (same_row-equal z x e) ∙ p)
-      | false ↦ λ p. has_row-filter test xs z ∙ fails (same_row z x) (test z) (λ e. ap test (same_row-equal z x e) ∙ p)
-    ] refl
-  where
-    passes : (a b : Bool) → (a ≡ true → b ≡ true) → (a || (b && has_row xs z)) ≡ (b && (a || has_row xs z))
-    passes true b h = sym (ap (λ c. c && true) (h refl))
-    passes false b h = refl
-
-    fails : (a b : Bool) → (a ≡ true → b ≡ false) → (b && has_row xs z) ≡ (b && (a || has_row xs z))
-    fails true b h = ap (λ c. c && has_row xs z) (h refl) ∙ sym (ap (λ c. c && true) (h refl))
-    fails false b h = refl
-
-or_twice : (a b : Bool) → (a || b) ≡ (a || (a || b))
-or_twice true b = refl
-or_twice false b = refl
-
-or_swapped : (a b c : Bool) → (a || (b || c)) ≡ (b || (a || c))
-or_swapped true true c = refl
-or_swapped true false c = refl
-or_swapped false b c = refl
-
-pub has_row-with_row : (x : Row) (ys : List Row) (z : Row) → has_row (with_row x ys) z ≡ (same_row z x || has_row ys z)
-has_row-with_row x [] z = refl
-has_row-with_row x (y ∷ ys) z =
-    elim (row_cmp x y) as (λ o. row_cmp x y ≡ o → has_row (match_ordering o (x ∷ y ∷ ys) (y ∷ ys) (y ∷ with_row x ys)) z ≡ (same_row z x || (same_row z y || has_row ys z))) [
-      | Less ↦ λ p. refl
-      | Equal ↦ λ p. subst (λ t. (same_row z y || has_row ys z) ≡ (same_row z t || (same_row z y || has_row ys z))) (sym (row_tie x y p)) (or_twice (same_row z y) (has_row ys z))
-      | Greater ↦ λ p. ap (λ b. same_row z y || b) (has_row-with_row x ys z) ∙ or_swapped (same_row z y) (same_row z x) (has_row ys z)
-    ] refl
-
-pub has_row-with_rows : (xs ys : List Row) (z : Row) → has_row (with_rows xs ys) z ≡ (has_row xs z || has_row ys z)
-has_row-with_rows [] ys z = refl
-has_row-with_rows (x ∷ xs) ys z =
-    has_row-with_row x (with_rows xs ys) z ∙ ap (λ b. same_row z x || b) (has_row-with_rows xs ys z) ∙ sym (or_assoc (same_row z x) (has_row xs z) (has_row ys z))
-
--- ---- weights
 
 weight_in-tabulated : (f : Row → Ratio) (xs : List Row) (z : Row) → weight_in (map (λ x. (x, f x)) xs) z ≡ cond (has_row xs z) (f z) zero_ratio
 weight_in-tabulated f [] z = refl

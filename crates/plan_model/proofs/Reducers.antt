@@ -10,7 +10,7 @@ use Rattle.record_text.specs.declared.kinds.Kind.{Kind}
 use Rattle.record_text.specs.KindLists.{kind_of, kinds_of}
 use Rattle.record_text.specs.Order.{atom_cmp}
 use Rattle.datasets.specs.Entries.{Row}
-use Rattle.operators.proofs.Members.{AllByRecursion-map, AllByRecursion-weaker}
+use Rattle.datasets.proofs.Members.{AllByRecursion-map, AllByRecursion-weaker}
 use Rattle.plan_model.specs.declared.step.Reducer.{Reducer}
 use Rattle.plan_model.specs.Evaluation.{column, greatest, least, reduced_to}
 use Rattle.plan_model.specs.Types.{column_kind, reducer_kind}

@@ -14,9 +14,9 @@ use Rattle.record_text.specs.KindLists.{kind_of, kinds_eq, kinds_of}
 use Rattle.record_text.proofs.Equality.{kinds_decided}
 use Rattle.datasets.specs.Dataset.{Dataset, empty}
 use Rattle.datasets.specs.Entries.{Row}
+use Rattle.datasets.proofs.Members.{AllByRecursion-filter}
 use Rattle.operators.specs.Laws.{NoneNegative}
 use Rattle.operators.specs.Operators.{applying, filtered, grouped, joined, numbered, pointwise, selected, shaved, spread}
-use Rattle.operators.proofs.Members.{AllByRecursion-filter}
 use Rattle.operators.proofs.OutputRows.{AllRows-filtered, AllRows-grouped, AllRows-joined, AllRows-pointwise, AllRows-selected, AllRows-shaved, AllRows-spread}
 use Rattle.operators.proofs.OutputSigns.{NoneNegative-concat, NoneNegative-filtered, NoneNegative-grouped, NoneNegative-intersect, NoneNegative-joined, NoneNegative-selected, NoneNegative-shaved, NoneNegative-spread, NoneNegative-union}
 use Rattle.plan_model.specs.declared.expr.Expr.{Expr}
@@ -167,7 +167,7 @@ module _ (cs : List (List Kind)) (bs : List Bool) (As : List Dataset) (h : (i : 
   IsTyped-input (i ∷ is) zero = h i
   IsTyped-input (i ∷ is) (suc n) = IsTyped-input is n
 
-  IsTyped-left : (types : List SourceType) (F : Family) (s : Step) → Keeps types F → IsTyped (left_columns types cs s) (left_sign types bs s) (left_dataset types F As s)
+  pub IsTyped-left : (types : List SourceType) (F : Family) (s : Step) → Keeps types F → IsTyped (left_columns types cs s) (left_sign types bs s) (left_dataset types F As s)
   IsTyped-left types F (Step.Source name) keeps = IsTyped-source types F (place_of name types) keeps
   IsTyped-left types F s keeps = IsTyped-input (inputs s) 0
 

@@ -74,6 +74,9 @@ at_least_if_not_at_most q r e = ap is_le (ratio_cmp_total.antisymm r q) ∙ le_o
 pub at_most_itself : (q : Ratio) → q ≼ q
 at_most_itself q = ap is_le (tied_itself ratio_cmp_total q)
 
+pub below_itself : (q : Ratio) → is_below q q ≡ false
+below_itself q = ap is_lt (tied_itself ratio_cmp_total q)
+
 -- ---- the greater and the less of one ratio twice
 
 either_same : (b : Bool) (q : Ratio) → cond b q q ≡ q

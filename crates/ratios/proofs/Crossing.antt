@@ -12,8 +12,7 @@ use Rattle.ratios.specs.Code.{ratio-num, ratio-den}
 use Rattle.ratios.proofs.Euclid.{dvd_from_coprime}
 use Rattle.std.proofs.Math.IntN.{*ℤ_comm}
 use Rattle.ratios.proofs.Over.{IsOver, neg-mul, over_as, over_itself, over_mul, over_ratio, same_over}
-use Rattle.ratios.proofs.Parts.{ratio-negative}
-use Rattle.ratios.proofs.Additive.{over_zero}
+use Rattle.ratios.proofs.Parts.{over_zero, ratio-negative}
 
 -- ---- common divisors
 coprime_mul : (a b c : ℕ) → IsGcd a b 1 → IsGcd a c 1 → IsGcd a (b * c) 1

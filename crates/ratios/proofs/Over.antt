@@ -4,7 +4,7 @@ use Rattle.std.proofs.lemmas.Int.{ints, unsigned_abs-mul}
 use Rattle.std.proofs.Math.Nat.{mul-le-mul_right, mul-pos, eq_of_mul-eq-mul_right, le_of_mul-le-mul_right}
 use borrow.Author.Differences.{up, down, neg_is, product_is}
 use Rattle.ratios.specs.Reduced.{quotients_times_gcd}
-use Rattle.ratios.specs.Ratio.{Ratio, reduced, ratio, ratio_add, ratio_sub, ratio_mul, ratio_div, ratio_neg, ratio_abs, ratio_half}
+use Rattle.ratios.specs.Ratio.{Ratio, reduced, ratio, ratio_add, ratio_sub, ratio_mul, ratio_neg, ratio_abs, ratio_half}
 use Rattle.ratios.specs.Code.{same_parts}
 use Rattle.ratios.proofs.Euclid.{same_denominator}
 
@@ -138,10 +138,10 @@ over_half z d q h =
     over_moved q.num z (2 * q.den) (2 * d) (ratio_half q) (over_ratio _ _ (let p = q.positive in omega arith)) (let p = h.some in omega arith)
     (parts_cross q.num z (2 * d) (2 * q.den) (omega (arith, e)))
 
-scaled_up : (z : ℤ) (k : ℕ) → up (z *ℤ pos k) ≡ up z * k
+pub scaled_up : (z : ℤ) (k : ℕ) → up (z *ℤ pos k) ≡ up z * k
 scaled_up z k = omega (arith, ints)
 
-scaled_down : (z : ℤ) (k : ℕ) → down (z *ℤ pos k) ≡ down z * k
+pub scaled_down : (z : ℤ) (k : ℕ) → down (z *ℤ pos k) ≡ down z * k
 scaled_down z k = omega (arith, ints)
 
 pub over_scaled : (z : ℤ) (d k : ℕ) (q : Ratio) → 0 < k → IsOver z d q → IsOver (z *ℤ pos k) (d * k) q
@@ -189,28 +189,3 @@ over_as z y d q h e = record { some = h.some; cross = h.cross ∙ ap (λ t. t *�
 -- one ratio over one denominator has one numerator
 pub same_numerator : (z y : ℤ) (d : ℕ) (q : Ratio) → IsOver z d q → IsOver y d q → z ≡ y
 same_numerator z y d q h k = cancel z y q.den q.positive (sym h.cross ∙ k.cross)
-
--- ---- the quotient of two ratios over one denominator is that of their numerators
-divisor_is : (m : ℤ) (y d e : ℕ) → 0 < y → 0 < e → m *ℤ pos d ≡ pos (y * e) → (k : ℕ) × (m ≡ pos k) × (0 < k) × (k * d ≡ y * e)
-divisor_is (pos zero) y d e h g c = absurd (let p = mul-pos h g in omega (arith, ints, c))
-divisor_is (pos (suc k)) y d e h g c = (suc k, refl, omega arith, omega (arith, ints, c))
-divisor_is (negsuc k) y d e h g c = absurd (let p = mul-pos h g in omega (arith, ints, c))
-
-div_moved : (n z : ℤ) (k y d a b : ℕ) → 0 < d → n *ℤ pos d ≡ z *ℤ pos a → k * d ≡ y * b → (n *ℤ pos b) *ℤ pos y ≡ z *ℤ pos (k * a)
-div_moved n z k y d a b some h g =
-    let p = ap (λ t. t * (b * y)) (cross_parts n z d a h) in
-    let u = ap (λ t. up z * a * t) g in
-    let v = ap (λ t. down z * a * t) g in
-    let e : up (n *ℤ pos b) ≡ up n * b = scaled_up n b in
-    let f : down (n *ℤ pos b) ≡ down n * b = scaled_down n b in
-    let t : (up n * b * y + down z * (k * a)) * d ≡ (up z * (k * a) + down n * b * y) * d = omega (arith, p, u, v) in
-    let w = eq_of_mul-eq-mul_right d some _ _ t in
-    parts_cross (n *ℤ pos b) z y (k * a) (omega (arith, w, ap (λ t. t * y) e, ap (λ t. t * y) f))
-
-pub over_div : (z : ℤ) (y d : ℕ) (q r : Ratio) → 0 < y → IsOver z d q → IsOver (pos y) d r → IsOver z y (ratio_div q r)
-over_div z y d q r p h k =
-    let t = divisor_is r.num y d r.den p r.positive k.cross in
-    let e : r.num *ℤ pos q.den ≡ pos (t.0 * q.den) = ap (λ n. n *ℤ pos q.den) t.1 in
-    let o = over_ratio (q.num *ℤ pos r.den) (t.0 * q.den) (mul-pos t.2 q.positive) in
-    let m = over_moved (q.num *ℤ pos r.den) z (t.0 * q.den) y (ratio (q.num *ℤ pos r.den) (pos (t.0 * q.den))) o p (div_moved q.num z t.0 y d q.den r.den h.some h.cross t.3) in
-    subst (λ n. IsOver z y (ratio (q.num *ℤ pos r.den) n)) (sym e) m

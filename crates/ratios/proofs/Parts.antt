@@ -1,11 +1,11 @@
 -- The parts of a ratio, and the quotient that it is.
-use Rattle.std.specs.Prelude.{ℕ, zero, suc, ◌≡◌, ◌≢◌, ℤ, pos, negsuc, ◌*ℤ◌, neg_ℤ, ◌≤ℤ◌, ◌<ℤ◌, unsigned_abs, refl}
-use Rattle.std.proofs.Common.{sym, ap, ap₂, ◌∙◌, arith}
+use Rattle.std.specs.Prelude.{ℕ, zero, suc, ◌<◌, ◌≡◌, ◌≢◌, ℤ, pos, negsuc, ◌*ℤ◌, neg_ℤ, ◌≤ℤ◌, ◌<ℤ◌, unsigned_abs, refl}
+use Rattle.std.proofs.Common.{sym, ap, ap₂, subst, ◌∙◌, arith}
 use Rattle.std.proofs.lemmas.Int.{ints}
 use Rattle.std.proofs.Math.IntN.{*ℤ_comm}
 use Rattle.ratios.specs.Ratio.{Ratio, IsReduced, ratio, zero_ratio, one_ratio}
 use Rattle.ratios.specs.Code.{ratio-itself}
-use Rattle.ratios.proofs.Over.{over_ratio, neg-mul}
+use Rattle.ratios.proofs.Over.{IsOver, neg-mul, over_moved, over_ratio}
 
 pub ratio-num-reduced : (n : ℤ) (d : ℕ) → IsReduced n d → (ratio n (pos d)).num ≡ n
 ratio-num-reduced n d h = let q : Ratio = record { num = n; den = d; positive = h.0; coprime = h.1 } in ap (λ (r : Ratio). r.num) (ratio-itself q)
@@ -53,3 +53,10 @@ ratio_is_quotient z (pos (suc k)) h = (over_ratio z (suc k) (omega arith)).cross
 ratio_is_quotient z (negsuc k) h =
     let q = ratio (neg_ℤ z) (pos (suc k)) in
     mul-negsuc q.num k ∙ ap neg_ℤ ((over_ratio (neg_ℤ z) (suc k) (omega arith)).cross ∙ neg-mul z (pos q.den)) ∙ neg_neg (z *ℤ pos q.den)
+
+-- 0 is 0 / d
+pub over_zero : (d : ℕ) → 0 < d → IsOver (pos 0) d zero_ratio
+over_zero d h =
+    let one : 0 < 1 = omega arith in
+    let o = subst (IsOver (pos 0) 1) ratio-zero (over_ratio (pos 0) 1 one) in
+    over_moved (pos 0) (pos 0) 1 d zero_ratio o h (omega (arith, ints))
