@@ -3,3 +3,6 @@ pub mod Positions
 pub mod Parts
 pub mod Rows
 pub mod Reached
+pub mod Charges
+pub mod StableSteps
+pub mod Stability

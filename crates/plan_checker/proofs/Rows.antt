@@ -9,7 +9,7 @@ use Rattle.plan_model.specs.declared.step.Step.{Step}
 use Rattle.plan_model.specs.Acceptance.{fault_of_step, first_fault}
 use Rattle.plan_model.specs.Evaluation.{last_or, step_by_step_after}
 use Rattle.plan_model.specs.Types.{columns, signs}
-use Rattle.plan_model.specs.Uses.{count_at, counts_of_step, uses, uses_of_steps, uses_step}
+use Rattle.plan_model.specs.Uses.{count_at, counts_of_step, uses, uses_step}
 use Rattle.plan_checker.specs.Steps.{counts_of, row_step, rows_of_steps}
 use Rattle.plan_checker.proofs.Members.{last_or-snoc}
 

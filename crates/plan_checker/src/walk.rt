@@ -1,6 +1,7 @@
 //! The check of a plan.
 ghost use Rattle.std.specs.Prelude.{◌≡◌, IfErr, IfOk};
 ghost use Rattle.plan_checker.specs.Checked.{IsChecked, IsPlanFault};
+ghost use Rattle.plan_checker.specs.Stability.{IsStable};
 ghost use Rattle.plan_checker.specs.declared.walk.PlanFault.TheVariants as fault;
 
 use crate::Memory;
@@ -32,10 +33,13 @@ impl From<Memory> for PlanFault {
 }
 
 /// Checks the plan for sources of these types, step by step. An accepted plan has no fault, and its columns, its
-/// sign and its uses are told; of another one the first fault of the first step that has one.
+/// sign and its uses are told; of another one the first fault of the first step that has one. In any two worlds that
+/// keep the kinds and signs of the sources, an accepted plan's outputs are no further apart than the sources are, each
+/// as often as the uses say.
 pub fn check(alloc: Global, plan: &Plan, types: &SourceTypes) -> Result<Checked, PlanFault>
     ensures ok { IfOk result (λ checked. IsChecked plan.now types.now checked) }
     ensures err { IfErr result (IsPlanFault plan.now types.now) }
+    ensures stable { IfOk result (λ checked. IsStable plan.now types.now checked.uses) }
 {
     let mut made = Made::new(alloc);
     for at in 0..plan.len() {

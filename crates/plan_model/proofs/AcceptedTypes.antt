@@ -13,7 +13,7 @@ use Rattle.plan_model.proofs.TypedSteps.{IsTyped, IsTyped-empty, IsTyped-eval_st
 
 module _ (types : List SourceType) (F : Family) (keeps : Keeps types F) where
   -- the step i of a plan is typed
-  abbrev TypedAt : List Step → ℕ → Type 0
+  abbrev pub TypedAt : List Step → ℕ → Type 0
   TypedAt p i = IsTyped (columns_at (columns p types) i) (may_be_negative p types i) (eval_at p types F i)
 
   IsTyped-either : (b : Bool) (c d : List Kind) (f g : Bool) (A B : Dataset) → IsTyped c f A → IsTyped d g B → IsTyped (if b then c else d) (if b then f else g) (if b then A else B)
@@ -21,7 +21,7 @@ module _ (types : List SourceType) (F : Family) (keeps : Keeps types F) where
   IsTyped-either false c d f g A B h k = k
 
   -- a step more, that passes its checks
-  TypedAt-snoc : (p : List Step) (s : Step) → PassesAfter types p s → ((i : ℕ) → TypedAt p i) → (i : ℕ) → TypedAt (p ++ s ∷ []) i
+  pub TypedAt-snoc : (p : List Step) (s : Step) → PassesAfter types p s → ((i : ℕ) → TypedAt p i) → (i : ℕ) → TypedAt (p ++ s ∷ []) i
   TypedAt-snoc p s passes h i =
       let new = IsTyped-eval_step (columns p types) (signs p types) (evals p types F) h types F s keeps passes.right_kinds passes.not_negative in
       rw (slice_index_or-step_by_step (columns_step types) p s [] i, slice_index_or-step_by_step (sign_step types) p s true i, slice_index_or-step_by_step (eval_step types F) p s empty i)

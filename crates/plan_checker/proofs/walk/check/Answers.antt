@@ -1,7 +1,10 @@
-use Rattle.std.proofs.Common.{ap, ap₂, sym, ◌∙◌, arith}
+use Rattle.std.proofs.Common.{ap, ap₂, sym, subst, ◌∙◌, arith}
 use Rattle.plan_model.specs.Acceptance.{first_fault}
+use Rattle.plan_checker.specs.Checked.{CheckedPlan}
+use Rattle.plan_checker.specs.Stability.{IsStable}
 use Rattle.plan_checker.specs.Steps.{row_step}
 use Rattle.plan_checker.proofs.Reached.{checked_end, made_some, reached_end, reached_fault, reached_more, step_after_columns, step_after_counts, step_after_signs}
+use Rattle.plan_checker.proofs.Stability.{plan_is_stable}
 use Rattle.plan_checker.proofs.walk.check.Goals as goal
 
 pub counts_step-requires-clause-step : goal.counts_step-requires-clause-step
@@ -51,3 +54,12 @@ returns-clause-ok c =
     let reached = c.loop-at.invariant in
     let told = c.last.ensures in
     (reached_end _ _ _ _ _ _ reached (omega arith), checked_end _ _ _ _ _ _ reached c.last.result (omega arith) c.len-at-end.ensures.plan told.columns told.sign told.uses)
+
+pub returns-clause-stable : goal.returns-clause-stable
+returns-clause-stable c =
+    let reached = c.loop-at.invariant in
+    let told = c.last.ensures in
+    let plan = c.len-at-end.ensures.plan in
+    let is = checked_end _ _ _ _ _ _ reached c.last.result (omega arith) plan told.columns told.sign told.uses in
+    let uses_are = sym (ap (λ (x : CheckedPlan). x.uses) is) in
+    subst (IsStable c.args.plan.now c.args.types.now) uses_are (plan_is_stable c.args.plan.now c.args.types.now plan (reached_end _ _ _ _ _ _ reached (omega arith)))

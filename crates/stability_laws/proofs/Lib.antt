@@ -1,0 +1,13 @@
+pub mod Gathers
+pub mod Plain
+pub mod Shares
+pub mod Crossed
+pub mod OneKey
+pub mod Join
+pub mod Cuts
+pub mod Tops
+pub mod Between
+pub mod Groups
+pub mod Changed
+pub mod Grouped
+pub mod Worlds
