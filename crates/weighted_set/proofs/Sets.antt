@@ -12,7 +12,7 @@ use Rattle.datasets.proofs.Weights.{at-empty, at-set_at}
 use Rattle.weighted_set.specs.declared.held.Held.{Held}
 use Rattle.weighted_set.specs.declared.held.View.{View}
 use Rattle.weighted_set.specs.declared.held.View.TheVariants.{Committed, Pending}
-use Rattle.weighted_set.specs.Held.{AllInRange, HeldDatasets, HeldRows, IsSet, IsSettledRow, PutsAt, SettlesAt, committed_of, dataset_by, pending_of, settled_row, viewed, weight_of}
+use Rattle.weighted_set.specs.Held.{AllInRange, HeldDatasets, HeldRows, IsSet, IsSettledRow, PutsAt, SettlesAt, committed_of, dataset_by, pending_of, settled_row, viewed, viewed_weight}
 use Rattle.weighted_set.proofs.Tables.{committed_of-settles, dataset_by-finds, pending_of-settles, settled_row-is_settled}
 use Rattle.weighted_set.proofs.TouchedRows.{all_but_less, all_but_more, all_but_noted, found_itself, others_stay}
 
@@ -111,12 +111,12 @@ pub entries_by-takes : (f : Held → Ratio) (x : Row) (h : Held) (es : HeldRows)
 entries_by-takes f x h es n = ap (λ b. cond (not b) ((x, f h) ∷ entries_by f es) (entries_by f es)) n
 
 -- ---- the views of a set
-dataset_by-either : (view : View) (es : HeldRows) → dataset_by (weight_of view) es ≡ viewed view (record { committed = committed_of es; pending = pending_of es })
+dataset_by-either : (view : View) (es : HeldRows) → dataset_by (viewed_weight view) es ≡ viewed view (record { committed = committed_of es; pending = pending_of es })
 dataset_by-either Committed es = refl
 dataset_by-either Pending es = refl
 
 -- what a set's rows give in a view is what callers see there
-pub dataset_by-view : (view : View) (es : HeldRows) (seen : HeldDatasets) → record { committed = committed_of es; pending = pending_of es } ≡ seen → dataset_by (weight_of view) es ≡ viewed view seen
+pub dataset_by-view : (view : View) (es : HeldRows) (seen : HeldDatasets) → record { committed = committed_of es; pending = pending_of es } ≡ seen → dataset_by (viewed_weight view) es ≡ viewed view seen
 dataset_by-view view es seen is = dataset_by-either view es ∙ ap (viewed view) is
 
 -- ---- a set without rows

@@ -23,6 +23,10 @@ apart_from_all ts x y h = none_of_both (has_row ts y) (same_row y x) (sym (list_
 apart_from_more : (ts : List Row) (x y : Row) → has_row ts y ≡ false → same_row y x ≡ false → has_row (ts ++ x ∷ []) y ≡ false
 apart_from_more ts x y h k = list_any-append (same_row y) ts (x ∷ []) ∙ both_not (has_row ts y) (same_row y x) h k
 
+-- a copy of a row is noted behind the touched ones
+pub copy_noted : (ts now : List Row) (x copy : Row) → now ≡ ts ++ copy ∷ [] → copy ≡ x → now ≡ ts ++ x ∷ []
+copy_noted ts now x copy pushed same = pushed ∙ ap (λ r. ts ++ r ∷ []) same
+
 -- ---- one entry changes
 module _ {V : Type 0} (x : Row) (o : Option V) (old new : List (Row × V)) (finds : FindsAt x o old new) where
   pub found_itself : lookup (same_row x) new ≡ o

@@ -12,7 +12,11 @@ use Rattle.weighted_set.specs.declared.compared.Compared.{Compared}
 abbrev pub compared_rows : Row → Ratio → Row → Ratio → Compared
 compared_rows row left other right =
     let order = row_cmp row other in
-    record { order = order; left = match_ordering order left left zero_ratio; right = match_ordering order zero_ratio right right }
+    record {
+      order = order;
+      left = match_ordering order left left zero_ratio;
+      right = match_ordering order zero_ratio right right;
+    }
 
 -- the same of two entries, or of the one that is there
 abbrev pub compared_entries : Option (Bor Row × Bor Ratio) → Option (Bor Row × Bor Ratio) → Option Compared

@@ -1,5 +1,5 @@
 -- Rows that hold two weights, the committed and the pending one.
-use Rattle.std.specs.Prelude.{◌≡◌, ◌≢◌, ℕ, if◌then◌else◌, List, map, length, MatchOption, filter, not, Option, Some, None, refl}
+use Rattle.std.specs.Prelude.{◌≡◌, ◌≢◌, ℕ, Bool, if◌then◌else◌, List, map, length, MatchOption, filter, not, Option, Some, None, refl}
 use Rattle.std.specs.Coded.{Coded, code_by, coded×}
 use Rattle.std.specs.Map.{lookup}
 use Rattle.std.specs.Ordering.{eq_by_cmp}
@@ -7,7 +7,8 @@ use Rattle.ratios.specs.Range.{InRange}
 use Rattle.ratios.specs.Ratio.{Ratio, ratio_cmp, zero_ratio}
 use Rattle.datasets.specs.Code.{dataset_code}
 use Rattle.datasets.specs.Dataset.{Dataset, at, rows, dataset_of}
-use Rattle.datasets.specs.Entries.{Row, is_zero, same_row}
+use Rattle.datasets.specs.Entries.{Entries, Row, is_zero, same_row}
+use Rattle.weighted_set.specs.Changes.{IsChangeList}
 use Rattle.weighted_set.specs.Tables.{AllBut, FindsAt}
 use Rattle.weighted_set.specs.declared.held.Held.{Held}
 use Rattle.weighted_set.specs.declared.held.View.{View}
@@ -31,9 +32,13 @@ abbrev pub pending_of : HeldRows → Dataset
 pending_of es = dataset_by (λ h. h.pending) es
 
 -- the weight of a view
-abbrev pub weight_of : View → Held → Ratio
-weight_of Committed h = h.committed
-weight_of Pending h = h.pending
+abbrev pub viewed_weight : View → Held → Ratio
+viewed_weight Committed h = h.committed
+viewed_weight Pending h = h.pending
+
+-- the rows that weigh something in a view, with their weights there
+abbrev pub viewed_entries : View → HeldRows → Entries
+viewed_entries view es = (dataset_by (viewed_weight view) es).entries
 
 -- what callers see of a set: the committed dataset, and the one that is pending
 pub record HeldDatasets : Type 0 where
@@ -43,7 +48,8 @@ pub record HeldDatasets : Type 0 where
 -- it is stored as the two datasets
 abbrev pub held_datasets_code : Coded HeldDatasets
 held_datasets_code =
-    code_by (Dataset × Dataset) (coded× dataset_code dataset_code) (λ h. (h.committed, h.pending)) (λ p. record { committed = p.0; pending = p.1 }) (λ _. refl)
+    code_by (Dataset × Dataset) (coded× dataset_code dataset_code)
+    (λ h. (h.committed, h.pending)) (λ p. record { committed = p.0; pending = p.1 }) (λ _. refl)
 
 -- the dataset of a view
 abbrev pub viewed : View → HeldDatasets → Dataset
@@ -66,17 +72,39 @@ settled_row w = if is_zero w then None else Some (record { committed = w; pendin
 abbrev pub SettlesAt : Row → Ratio → HeldRows → HeldRows → Type 0
 SettlesAt x w old new = FindsAt x (settled_row w) old new
 
+-- once its pending weight is committed, the row x is settled at it
+abbrev pub CommitsRow : Row → HeldRows → HeldRows → Type 0
+CommitsRow x old new = SettlesAt x (at (pending_of old) x) old new
+
+-- once its pending weight is taken back, the row x is settled at its committed one
+abbrev pub AbortsRow : Row → HeldRows → HeldRows → Type 0
+AbortsRow x old new = SettlesAt x (at (committed_of old) x) old new
+
 -- a row that is kept with nothing pending has a weight other than 0
 abbrev pub IsSettledRow : Held → Type 0
 IsSettledRow h = (h.pending ≡ h.committed) × (h.committed ≢ zero_ratio)
 
 -- the rows that hold weights hold those of A and of B, and no other row differs between A and B
 abbrev pub HoldsStep : HeldRows → Dataset → Dataset → Type 0
-HoldsStep es A B = (x : Row) → MatchOption (lookup (same_row x) es) (at B x ≡ at A x) (λ h. (h.committed ≡ at A x) × (h.pending ≡ at B x))
+HoldsStep es A B =
+    (x : Row) → MatchOption (lookup (same_row x) es) (at B x ≡ at A x) (λ h. (h.committed ≡ at A x) × (h.pending ≡ at B x))
+
+-- h has the weights of the row x in A and in whatever the rows es make of A
+abbrev pub HasStepWeights : HeldRows → Dataset → Row → Held → Type 0
+HasStepWeights es A x h = (B : Dataset) → HoldsStep es A B → (h.committed ≡ at A x) × (h.pending ≡ at B x)
+
+-- they are what the rows es change, whatever they are taken to change
+abbrev pub AreStepChanges : HeldRows → List Change → Type 0
+AreStepChanges es changes = (A B : Dataset) → HoldsStep es A B → IsChangeList changes A B
+
+-- the two weights of a row differ
+abbrev pub is_changed : Held → Bool
+is_changed h = not (eq_by_cmp ratio_cmp h.committed h.pending)
 
 -- the rows whose two weights differ, as changes
 abbrev pub held_changes : HeldRows → List Change
-held_changes es = map (λ e. record { row = e.0; old = e.1.committed; new = e.1.pending }) (filter (λ e. not (eq_by_cmp ratio_cmp e.1.committed e.1.pending)) es)
+held_changes es =
+    map (λ e. record { row = e.0; old = e.1.committed; new = e.1.pending }) (filter (λ e. is_changed e.1) es)
 
 -- what a set keeps: no other rows than the touched ones with a pending change or of weight 0, its length, and
 -- the range of its weights

@@ -40,6 +40,28 @@ part_in view parts key = viewed view (part_at parts key)
 abbrev pub set_at_key : Row → Row → Ratio → (Row → Dataset) → Row → Dataset
 set_at_key key row w parts k = if same_row k key then set_at row w (parts k) else parts k
 
+-- every key's committed part stays
+abbrev pub SameCommitted : StoreParts → StoreParts → Type 0
+SameCommitted old new = (k : Row) → committed_part new k ≡ committed_part old k
+
+-- every key's pending part stays
+abbrev pub SamePending : StoreParts → StoreParts → Type 0
+SamePending old new = (k : Row) → pending_part new k ≡ pending_part old k
+
+-- once put, the pending weight of the row is w at the key, and every other pending weight stays
+abbrev pub PendsAt : Row → Row → Ratio → StoreParts → StoreParts → Type 0
+PendsAt key row w old new = (k : Row) → pending_part new k ≡ set_at_key key row w (pending_part old) k
+
+-- the key's part is committed, and every other key's committed part stays
+abbrev pub CommitsAt : Row → StoreParts → StoreParts → Type 0
+CommitsAt key old new =
+    (k : Row) → committed_part new k ≡ (if same_row k key then pending_part old k else committed_part old k)
+
+-- the key's pending part is taken back, and every other key's pending part stays
+abbrev pub AbortsAt : Row → StoreParts → StoreParts → Type 0
+AbortsAt key old new =
+    (k : Row) → pending_part new k ≡ (if same_row k key then committed_part old k else pending_part old k)
+
 -- a part that is kept with nothing pending has rows
 abbrev pub IsSettledPart : HeldDatasets → Type 0
 IsSettledPart part = (part.pending ≡ part.committed) × (part.committed ≢ empty)

@@ -24,4 +24,5 @@ differences A B = map (λ x. ratio_sub (at A x) (at B x)) (rows_of_either A B)
 
 -- the distance, or nothing where a difference or a sum on the way is out of range
 abbrev pub checked_distance : Dataset → Dataset → Option Ratio
-checked_distance A B = if list_all in_range (differences A B) && list_all in_range (running_sums (dist_terms A B)) then Some (dist A B) else None
+checked_distance A B =
+    if list_all in_range (differences A B) && list_all in_range (running_sums (dist_terms A B)) then Some (dist A B) else None

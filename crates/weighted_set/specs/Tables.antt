@@ -5,11 +5,13 @@ use Rattle.datasets.specs.Entries.{Row, has_row, same_row}
 
 -- the row x is found with o, and every other row with what it had
 abbrev pub FindsAt : {V : Type 0} → Row → Option V → List (Row × V) → List (Row × V) → Type 0
-FindsAt x o old new = (q : Row) → lookup (same_row q) new ≡ (if same_row x q then o else lookup (same_row q) old)
+FindsAt x o old new =
+    (q : Row) → lookup (same_row q) new ≡ (if same_row x q then o else lookup (same_row q) old)
 
 -- every row other than x is found with what it had
 abbrev pub OthersStay : {V : Type 0} → Row → List (Row × V) → List (Row × V) → Type 0
-OthersStay x old new = (q : Row) → same_row x q ≡ false → lookup (same_row q) new ≡ lookup (same_row q) old
+OthersStay x old new =
+    (q : Row) → same_row x q ≡ false → lookup (same_row q) new ≡ lookup (same_row q) old
 
 -- every row that is found, and is none of these, is found with a value of P
 abbrev pub AllBut : {V : Type 0} → (V → Type 0) → List Row → List (Row × V) → Type 0

@@ -1,10 +1,7 @@
 //! Weights that are added one by one.
 ghost use Rattle.std.specs.Prelude.{◌≡◌, IfErr, IfOk, true};
-ghost use Rattle.std.specs.List.{position_from};
-ghost use Rattle.datasets.specs.Dataset.{Dataset, at as weight_at, is_negative, with_added};
-ghost use Rattle.weighted_set.specs.Adding.{IsAddFault, StaysInRange};
-ghost use Rattle.weighted_set.specs.Changes.{IsChangeList, entries_of};
-ghost use Rattle.weighted_set.specs.Held.{HoldsStep};
+ghost use Rattle.weighted_set.specs.Adding.{HoldsAdded, IsAddFault, IsFirstBelowZero, StaysInRange};
+ghost use Rattle.weighted_set.specs.Held.{AreStepChanges, HasStepWeights};
 ghost use Rattle.weighted_set.specs.declared.adding.AddFault.TheVariants as fault;
 
 use crate::Memory;
@@ -41,7 +38,7 @@ impl From<Memory> for AddFault {
 
 // The weights of a row in the set, and once what is running is added.
 fn weights_of(set: &HeldSet, running: &BTreeMap<Row, Held>, row: &Row) -> Held
-    ensures { (B : Dataset) → HoldsStep running.now.entries set.now.committed B → (result.committed ≡ weight_at set.now.committed row.now) × (result.pending ≡ weight_at B row.now) }
+    ensures { HasStepWeights running.now.entries set.now.committed row.now result }
 {
     match running.get(row) {
         Some(held) => *held,
@@ -62,7 +59,7 @@ pub fn add_all(
     added: &[Weighted],
 ) -> Result<BTreeMap<Row, Held>, AddFault>
     ensures in_range { IfOk result (λ _. StaysInRange set.now.committed added.now) }
-    ensures step { IfOk result (λ running. HoldsStep running.entries set.now.committed (with_added set.now.committed (entries_of added.now))) }
+    ensures step { IfOk result (λ running. HoldsAdded running.entries set.now.committed added.now) }
     ensures err { IfErr result (IsAddFault set.now.committed added.now true) }
 {
     let mut running = BTreeMap::new(alloc);
@@ -86,7 +83,7 @@ pub fn first_negative(
     running: &BTreeMap<Row, Held>,
     added: &[Weighted],
 ) -> Option<usize>
-    ensures { (B : Dataset) → HoldsStep running.now.entries set.now.committed B → result ≡ position_from (λ e. is_negative (weight_at B e.0)) 0 (entries_of added.now) }
+    ensures { IsFirstBelowZero running.now.entries set.now.committed added.now result }
 {
     for (at, one) in added.iter().enumerate() {
         if weights_of(set, running, &one.row).pending < Frac::zero() {
@@ -98,7 +95,7 @@ pub fn first_negative(
 
 /// The rows whose two weights differ, as changes in row order.
 pub fn changes_in(alloc: Global, running: BTreeMap<Row, Held>) -> Result<Vec<Change>, Memory>
-    ensures { IfOk result (λ changes. (A B : Dataset) → HoldsStep running.entries A B → IsChangeList changes.items A B) }
+    ensures { IfOk result (λ changes. AreStepChanges running.entries changes.items) }
 {
     // Tells that the rows are in order.
     let _len = running.len();

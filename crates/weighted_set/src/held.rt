@@ -5,7 +5,7 @@ ghost use Rattle.datasets.specs.Dataset.{at, empty, rows};
 ghost use Rattle.datasets.specs.Entries.{is_zero as is_zero_ratio, row_count as row_count_of, same_row};
 ghost use Rattle.ratios.specs.Ratio.{zero_ratio};
 ghost use Rattle.weighted_set.specs.Changes.{IsChangeList, entries_of};
-ghost use Rattle.weighted_set.specs.Held.{PutsAt, SettlesAt, committed_of, dataset_by, pending_of, weight_of};
+ghost use Rattle.weighted_set.specs.Held.{AbortsRow, CommitsRow, PutsAt, SettlesAt, committed_of, pending_of, viewed_entries, viewed_weight};
 
 use crate::Memory;
 use crate::weighted::{Change, Weighted};
@@ -34,7 +34,7 @@ pub enum View {
 
 // The weight of a view.
 fn weight_by(view: View, held: Held) -> Frac
-    ensures { result ≡ weight_of view held }
+    ensures { result ≡ viewed_weight view held }
 {
     match view {
         View::Committed => held.committed,
@@ -122,7 +122,7 @@ fn settle(table: &mut BTreeMap<Row, Held>, row: &Row, weight: Frac)
 pub fn commit_row(table: &mut BTreeMap<Row, Held>, row: &Row, len: usize) -> usize
     requires { len ≡ length (rows (committed_of table.old.entries)) }
     ensures counted { result ≡ length (rows (committed_of table.new.entries)) }
-    ensures settled { SettlesAt row.now (at (pending_of table.old.entries) row.now) table.old.entries table.new.entries }
+    ensures settled { CommitsRow row.now table.old.entries table.new.entries }
 {
     // Tells that a table has room to count its rows.
     let _room = table.len();
@@ -133,7 +133,7 @@ pub fn commit_row(table: &mut BTreeMap<Row, Held>, row: &Row, len: usize) -> usi
 
 /// Makes the committed weight of a row its pending one.
 pub fn abort_row(table: &mut BTreeMap<Row, Held>, row: &Row)
-    ensures { SettlesAt row.now (at (committed_of table.old.entries) row.now) table.old.entries table.new.entries }
+    ensures { AbortsRow row.now table.old.entries table.new.entries }
 {
     let held = held_at(table, row);
     settle(table, row, held.committed);
@@ -147,9 +147,9 @@ pub fn read_rows<L: Ledger>(
     steps: &mut Steps<L>,
 ) -> Result<(), Memory>
     requires { into.old.items ≡ [] }
-    ensures entries { OnOk result (entries_of into.new.items ≡ (dataset_by (weight_of view) table.now.entries).entries) }
-    ensures ticks { OnOk result (steps.new ≡ steps.old + length (dataset_by (weight_of view) table.now.entries).entries) }
-    ensures at_most { steps.new ≤ steps.old + length (dataset_by (weight_of view) table.now.entries).entries }
+    ensures entries { OnOk result (entries_of into.new.items ≡ viewed_entries view table.now.entries) }
+    ensures ticks { OnOk result (steps.new ≡ steps.old + length (viewed_entries view table.now.entries)) }
+    ensures at_most { steps.new ≤ steps.old + length (viewed_entries view table.now.entries) }
 {
     for (row, held) in table {
         let weight = weight_by(view, *held);

@@ -1,7 +1,8 @@
-//! Weighted datasets: rows with exact weights, sets of them that change in two steps, and stores of them by key.
+//! Weighted datasets: rows with exact weights, sets of them that change in two steps, and stores of them by
+//! key.
 //!
-//! Contracts see a `WSet` as a dataset. What changes in two steps they see as the committed dataset and the one
-//! that is pending, a store at each key.
+//! Contracts see a `WSet` as a dataset. What changes in two steps they see as the committed dataset and the
+//! one that is pending, a store at each key.
 #![tactic(auto)]
 
 mod adding;

@@ -1,11 +1,11 @@
 //! Weights by key and row, which change in two steps.
-ghost use Rattle.std.specs.Prelude.{◌≡◌, ◌+◌, ◌≤◌, if◌then◌else◌, [], IfSome, IsSome, OnErr, OnOk, length};
+ghost use Rattle.std.specs.Prelude.{◌≡◌, ◌+◌, ◌≤◌, [], IfSome, IsSome, OnErr, OnOk, length};
 ghost use Rattle.std.specs.Map.{lookup};
 ghost use Rattle.datasets.specs.Dataset.{at as weight_at, empty};
 ghost use Rattle.datasets.specs.Entries.{Row as RowValue, same_row};
 ghost use Rattle.weighted_set.specs.Changes.{entries_of};
 ghost use Rattle.weighted_set.specs.Held.{AllInRange};
-ghost use Rattle.weighted_set.specs.Parts.{IsSettledPart, committed_part, part_in, pending_part, set_at_key};
+ghost use Rattle.weighted_set.specs.Parts.{AbortsAt, CommitsAt, IsSettledPart, PendsAt, SameCommitted, SamePending, committed_part, part_in, pending_part};
 ghost use Rattle.weighted_set.specs.Tables.{OthersStay};
 
 use crate::Memory;
@@ -59,8 +59,8 @@ impl PartStore {
         }
     }
 
-    /// Puts a key's rows and weights in a list, in row order, in place of what is there. It takes one tick for
-    /// each of them. After a refusal the list is empty.
+    /// Puts a key's rows and weights in a list, in row order, in place of what is there. It takes one tick
+    /// for each of them. After a refusal the list is empty.
     pub fn read_part<L: Ledger>(
         &self,
         key: &Row,
@@ -104,9 +104,9 @@ impl PartStore {
         weight: Frac,
         steps: &mut Steps<L>,
     ) -> Result<(), Memory>
-        ensures committed { (k : RowValue) → committed_part self.new k ≡ committed_part self.old k }
-        ensures ok { OnOk result ((k : RowValue) → pending_part self.new k ≡ set_at_key key.now row.now weight (pending_part self.old) k) }
-        ensures err { OnErr result ((k : RowValue) → pending_part self.new k ≡ pending_part self.old k) }
+        ensures committed { SameCommitted self.old self.new }
+        ensures ok { OnOk result (PendsAt key.now row.now weight self.old self.new) }
+        ensures err { OnErr result (SamePending self.old self.new) }
         ensures ticks { steps.new ≡ steps.old + 1 }
     {
         steps.tick();
@@ -114,9 +114,9 @@ impl PartStore {
     }
 
     fn put(&mut self, key: &Row, row: &Row, weight: Frac) -> Result<(), Memory>
-        ensures committed { (k : RowValue) → committed_part self.new k ≡ committed_part self.old k }
-        ensures ok { OnOk result ((k : RowValue) → pending_part self.new k ≡ set_at_key key.now row.now weight (pending_part self.old) k) }
-        ensures err { OnErr result ((k : RowValue) → pending_part self.new k ≡ pending_part self.old k) }
+        ensures committed { SameCommitted self.old self.new }
+        ensures ok { OnOk result (PendsAt key.now row.now weight self.old self.new) }
+        ensures err { OnErr result (SamePending self.old self.new) }
     {
         let note = key.try_copy()?;
         self.touched.push(note)?;
@@ -127,7 +127,7 @@ impl PartStore {
     /// Makes the pending weights the committed ones, and gives back the memory of the list of touched keys.
     pub fn commit(&mut self)
         ensures committed { (k : RowValue) → committed_part self.new k ≡ pending_part self.old k }
-        ensures pending { (k : RowValue) → pending_part self.new k ≡ pending_part self.old k }
+        ensures pending { SamePending self.old self.new }
     {
         while let Some(key) = self.touched.pop() {
             commit_part(&mut self.parts, &key);
@@ -138,7 +138,7 @@ impl PartStore {
 
     /// Makes the committed weights the pending ones, and gives back the memory of the list of touched keys.
     pub fn abort(&mut self)
-        ensures committed { (k : RowValue) → committed_part self.new k ≡ committed_part self.old k }
+        ensures committed { SameCommitted self.old self.new }
         ensures pending { (k : RowValue) → pending_part self.new k ≡ committed_part self.old k }
     {
         while let Some(key) = self.touched.pop() {
@@ -151,8 +151,8 @@ impl PartStore {
 
 // Makes room for a key, with no rows.
 fn add_key(alloc: Global, parts: &mut BTreeMap<Row, HeldSet>, key: &Row) -> Result<(), Memory>
-    ensures committed { (k : RowValue) → committed_part parts.new.entries k ≡ committed_part parts.old.entries k }
-    ensures pending { (k : RowValue) → pending_part parts.new.entries k ≡ pending_part parts.old.entries k }
+    ensures committed { SameCommitted parts.old.entries parts.new.entries }
+    ensures pending { SamePending parts.old.entries parts.new.entries }
     ensures has { OnOk result (IsSome (lookup (same_row key.now) parts.new.entries)) }
     ensures others { OthersStay key.now parts.old.entries parts.new.entries }
 {
@@ -172,9 +172,9 @@ fn put_in_part(
     weight: Frac,
 ) -> Result<(), Memory>
     requires { IsSome (lookup (same_row key.now) parts.old.entries) }
-    ensures committed { (k : RowValue) → committed_part parts.new.entries k ≡ committed_part parts.old.entries k }
-    ensures ok { OnOk result ((k : RowValue) → pending_part parts.new.entries k ≡ set_at_key key.now row.now weight (pending_part parts.old.entries) k) }
-    ensures err { OnErr result ((k : RowValue) → pending_part parts.new.entries k ≡ pending_part parts.old.entries k) }
+    ensures committed { SameCommitted parts.old.entries parts.new.entries }
+    ensures ok { OnOk result (PendsAt key.now row.now weight parts.old.entries parts.new.entries) }
+    ensures err { OnErr result (SamePending parts.old.entries parts.new.entries) }
     ensures others { OthersStay key.now parts.old.entries parts.new.entries }
 {
     match parts.get_mut(key) {
@@ -185,8 +185,8 @@ fn put_in_part(
 
 // Makes the pending weights of a key the committed ones.
 fn commit_part(parts: &mut BTreeMap<Row, HeldSet>, key: &Row)
-    ensures committed { (k : RowValue) → committed_part parts.new.entries k ≡ (if same_row k key.now then pending_part parts.old.entries k else committed_part parts.old.entries k) }
-    ensures pending { (k : RowValue) → pending_part parts.new.entries k ≡ pending_part parts.old.entries k }
+    ensures committed { CommitsAt key.now parts.old.entries parts.new.entries }
+    ensures pending { SamePending parts.old.entries parts.new.entries }
     ensures others { OthersStay key.now parts.old.entries parts.new.entries }
 {
     if let Some(part) = parts.get_mut(key) {
@@ -196,8 +196,8 @@ fn commit_part(parts: &mut BTreeMap<Row, HeldSet>, key: &Row)
 
 // Makes the committed weights of a key the pending ones.
 fn abort_part(parts: &mut BTreeMap<Row, HeldSet>, key: &Row)
-    ensures committed { (k : RowValue) → committed_part parts.new.entries k ≡ committed_part parts.old.entries k }
-    ensures pending { (k : RowValue) → pending_part parts.new.entries k ≡ (if same_row k key.now then committed_part parts.old.entries k else pending_part parts.old.entries k) }
+    ensures committed { SameCommitted parts.old.entries parts.new.entries }
+    ensures pending { AbortsAt key.now parts.old.entries parts.new.entries }
     ensures others { OthersStay key.now parts.old.entries parts.new.entries }
 {
     if let Some(part) = parts.get_mut(key) {
@@ -208,8 +208,8 @@ fn abort_part(parts: &mut BTreeMap<Row, HeldSet>, key: &Row)
 // Takes a part without rows, of which nothing is pending, out.
 fn drop_empty(parts: &mut BTreeMap<Row, HeldSet>, key: &Row)
     requires { pending_part parts.old.entries key.now ≡ committed_part parts.old.entries key.now }
-    ensures committed { (k : RowValue) → committed_part parts.new.entries k ≡ committed_part parts.old.entries k }
-    ensures pending { (k : RowValue) → pending_part parts.new.entries k ≡ pending_part parts.old.entries k }
+    ensures committed { SameCommitted parts.old.entries parts.new.entries }
+    ensures pending { SamePending parts.old.entries parts.new.entries }
     ensures others { OthersStay key.now parts.old.entries parts.new.entries }
     ensures settled { IfSome (lookup (same_row key.now) parts.new.entries) IsSettledPart }
 {

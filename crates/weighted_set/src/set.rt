@@ -73,7 +73,8 @@ impl HeldSet {
         held_at(&self.table, row).committed
     }
 
-    /// The row at a place, in row order from place 0 on, with its weight. It takes time in proportion to the place.
+    /// The row at a place, in row order from place 0 on, with its weight. It takes time in proportion to the
+    /// place.
     pub fn entry(&self, at: usize) -> (&Row, Frac)
         requires { at < length (rows self.now.committed) }
         ensures { slice_get self.now.committed.entries at ≡ Some (result.0.now, result.1) }
@@ -90,8 +91,8 @@ impl HeldSet {
     }
 
     /// The changes that adding weights one by one would make, in row order, without those of rows that end as
-    /// they began. `Range` names the first place whose row is out of range once its weight is added. Else, where
-    /// weights below 0 are not allowed, `Negative` names the first place whose row ends below 0.
+    /// they began. `Range` names the first place whose row is out of range once its weight is added. Else,
+    /// where weights below 0 are not allowed, `Negative` names the first place whose row ends below 0.
     pub fn changes_of(&self, added: &[Weighted], signed: bool) -> Result<Vec<Change>, AddFault>
         requires { self.now.pending ≡ self.now.committed }
         ensures ok { IfOk result (λ changes. AreChangesOfAdding self.now.committed added.now signed changes.items) }
@@ -168,8 +169,8 @@ impl HeldSet {
         Ok(())
     }
 
-    /// Puts the rows and weights of a view in a list, in row order, in place of what is there. It takes one tick
-    /// for each of them. After a refusal the list is empty.
+    /// Puts the rows and weights of a view in a list, in row order, in place of what is there. It takes one
+    /// tick for each of them. After a refusal the list is empty.
     pub(crate) fn read<L: Ledger>(
         &self,
         view: View,

@@ -62,7 +62,8 @@ impl WSet {
         self.table.len()
     }
 
-    /// The row at a place, in row order from place 0 on, with its weight. It takes time in proportion to the place.
+    /// The row at a place, in row order from place 0 on, with its weight. It takes time in proportion to the
+    /// place.
     pub fn entry(&self, at: usize) -> (&Row, Frac)
         requires { at < length (rows self.now) }
         ensures { slice_get self.now.entries at ≡ Some (result.0.now, result.1) }

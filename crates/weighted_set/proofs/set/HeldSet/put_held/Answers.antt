@@ -1,15 +1,16 @@
-use Rattle.std.proofs.Common.{◌≡◌, ◌++◌, ◌∷◌, [], ap, sym, ◌∙◌, subst, Some}
+use Rattle.std.proofs.Common.{ap, sym, ◌∙◌, subst, Some}
 use Rattle.datasets.specs.Dataset.{at, set_at}
 use Rattle.weighted_set.specs.Held.{IsSet}
 use Rattle.weighted_set.proofs.Tables.{dataset_by-finds}
 use Rattle.weighted_set.proofs.Sets.{committed_stays, noted_is_set, put_is_set}
+use Rattle.weighted_set.proofs.TouchedRows.{copy_noted}
 use Rattle.weighted_set.proofs.set.HeldSet.put_held.Goals as goal
 
 pub invariant_of-self-in_err-put : goal.invariant_of-self-in_err-put
 invariant_of-self-in_err-put c =
     let old = c.self.inside in
     let noted = noted_is_set old.table.entries old.table.entries old.touched.items c.args.row.now old.len c.self.invariant in
-    let e : c.push.new.self.items ≡ old.touched.items ++ c.args.row.now ∷ [] = c.in_ok-push.ensures.items ∙ ap (λ r. old.touched.items ++ r ∷ []) c.in_ok-note.ensures in
+    let e = copy_noted old.touched.items c.push.new.self.items c.args.row.now c.in_ok-note.note c.in_ok-push.ensures.items c.in_ok-note.ensures in
     subst (λ es. IsSet es c.push.new.self.items old.len) (sym c.in_err-put.ensures.err) (subst (λ ts. IsSet old.table.entries ts old.len) (sym e) noted)
 
 pub returns-clause-committed : goal.returns-clause-committed
@@ -31,7 +32,7 @@ invariant_of-self-2 c =
     let x = c.args.row.now in
     let new = c.put.new.table.entries in
     let same = ap (λ v. v.committed) c.self.view_is in
-    let e : c.push.new.self.items ≡ old.touched.items ++ x ∷ [] = c.in_ok-push.ensures.items ∙ ap (λ r. old.touched.items ++ r ∷ []) c.in_ok-note.ensures in
+    let e = copy_noted old.touched.items c.push.new.self.items x c.in_ok-note.note c.in_ok-push.ensures.items c.in_ok-note.ensures in
     let put = put_is_set old.table.entries new old.touched.items x old.len c.args.held c.self.invariant c.in_ok-put.ensures.ok
     (c.requires ∙ ap (λ A. at A x) (sym same)) c.numer-numerator.ensures.in_range in
     subst (λ ts. IsSet new ts old.len) (sym e) put
