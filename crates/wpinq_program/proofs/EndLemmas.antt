@@ -10,7 +10,7 @@ use Rattle.line_runs.proofs.LineLemmas.{whole_lines-append, open_line-append}
 use Rattle.session_core.specs.State.{State}
 use Rattle.wpinq_program.specs.Served.{Moment, Served, ServedInPart}
 use Rattle.wpinq_program.specs.Outcome.{IsStatus, IsComplete, Ends, Outcome, Streaming, Streamed}
-use Rattle.wpinq_program.specs.declared.stream.Stop.TheVariants.{InputEnd, ReadFault, WriteFault, OverLimit}
+use Rattle.wpinq_program.specs.declared.stop.Stop.TheVariants.{InputEnd, ReadFault, WriteFault, OverLimit}
 use Rattle.wpinq_program.proofs.LineLemmas.{kept-nil}
 use Rattle.wpinq_program.proofs.TakenLemmas.{taken_within}
 use Rattle.wpinq_program.proofs.ServedLemmas.{Served-none, Served-append, ServedInPart-append, ServedInPart-more, ServedInPart-of}

@@ -5,10 +5,10 @@ use Rattle.io_edge.specs.Known.{Loses, IsUsedUp}
 use Rattle.line_runs.specs.Lines.{Lines, WholeLines, open_line}
 use Rattle.session_core.specs.State.{State}
 use Rattle.wpinq_program.specs.Served.{Moment, Served, ServedInPart}
-use Rattle.wpinq_program.specs.declared.stream.Stop.{Stop}
-use Rattle.wpinq_program.specs.declared.stream.Stop.TheVariants.{InputEnd, ReadFault, WriteFault, OverLimit}
-use Rattle.wpinq_program.specs.declared.input.Beyond.{Beyond}
-use Rattle.wpinq_program.specs.declared.input.Beyond.TheVariants.{End, Fault, Byte}
+use Rattle.wpinq_program.specs.declared.stop.Stop.{Stop}
+use Rattle.wpinq_program.specs.declared.stop.Stop.TheVariants.{InputEnd, ReadFault, WriteFault, OverLimit}
+use Rattle.wpinq_program.specs.declared.beyond.Beyond.{Beyond}
+use Rattle.wpinq_program.specs.declared.beyond.Beyond.TheVariants.{End, Fault, Byte}
 use Rattle.wpinq_program.specs.Limits.{kept_of}
 
 -- the statuses

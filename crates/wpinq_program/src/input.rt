@@ -4,15 +4,8 @@ ghost use Rattle.io_edge.specs.Known.{Loses, ReadOutcome};
 ghost use Rattle.io_edge.specs.Causes.{HasCause};
 ghost use Rattle.wpinq_program.specs.Outcome.{BeyondIs};
 
+use crate::beyond::Beyond;
 use io_edge::{Failed, Source};
-
-/// What a read past the limit found.
-#[derive(Clone, Copy, Debug, PartialEq, Eq)]
-pub enum Beyond {
-    End,
-    Fault,
-    Byte,
-}
 
 /// Reads at most so many bytes to the front of the buffer.
 pub fn read_some<S: Source>(src: &mut S, buf: &mut [u8], most: u64) -> Result<usize, Failed>

@@ -3,13 +3,18 @@
 //! which the input is read and the output is taken.
 #![tactic(auto)]
 
+mod beyond;
+mod ending;
 mod input;
 mod line_buffer;
 mod output;
 mod responder;
+mod stop;
 mod stream;
 mod top;
+mod word;
 mod words;
 
-pub use top::{Ending, MAX_BYTES, wpinq};
-pub use words::Word;
+pub use ending::Ending;
+pub use top::{MAX_BYTES, wpinq};
+pub use word::Word;

@@ -4,21 +4,14 @@ ghost use Rattle.io_edge.specs.Causes.{Rose};
 ghost use Rattle.wpinq_program.specs.Outcome.{Streamed};
 ghost use Rattle.wpinq_program.specs.Served.{responding};
 
-use crate::input::{Beyond, read_beyond, read_some};
+use crate::beyond::Beyond;
+use crate::input::{read_beyond, read_some};
 use crate::line_buffer::LineBuffer;
 use crate::responder::Responder;
+use crate::stop::Stop;
 use io_edge::{Noise, Shelf, Sink, Source};
 use std::sync::ledger::Ledger;
 use steps::Steps;
-
-/// Why no more is read.
-#[derive(Clone, Copy, Debug, PartialEq, Eq)]
-pub enum Stop {
-    InputEnd,
-    ReadFault,
-    WriteFault,
-    OverLimit,
-}
 
 /// Serves the whole lines of the input, of which at most `max` bytes are taken into `piece`.
 pub fn serve_stream<S: Source, K: Sink, N: Noise, F: Shelf, L: Ledger>(

@@ -7,10 +7,13 @@ ghost use Rattle.wpinq_program.specs.Outcome.{Outcome, IsComplete, IsStatus};
 ghost use Rattle.wpinq_program.specs.Served.{moment};
 ghost use Rattle.wpinq_program.specs.Words.{flag_of};
 
+use crate::ending::Ending;
 use crate::line_buffer::LineBuffer;
 use crate::responder::Responder;
-use crate::stream::{Stop, serve_stream};
-use crate::words::{Word, flag_of};
+use crate::stop::Stop;
+use crate::stream::serve_stream;
+use crate::word::Word;
+use crate::words::flag_of;
 use io_edge::{Noise, Shelf, Sink, Source};
 use session_core::Memory;
 use std::alloc::Global;
@@ -35,16 +38,6 @@ const WRITE_FAULT: u8 = 4;
 const NO_MEMORY: u8 = 5;
 
 const OVER_LIMIT: u8 = 6;
-
-/// How a run ended.
-#[derive(Clone, Copy, Debug, PartialEq, Eq)]
-pub struct Ending {
-    /// 0 where the input was answered to its end, 2 for faulty words, 3 where the source failed, 4 where
-    /// the sink failed, 5 for want of memory before the first line, and 6 where the input is over the limit.
-    pub status: u8,
-    /// For how many lines a reply was made.
-    pub lines: u64,
-}
 
 /// Answers the request lines of the source, and writes each reply to the sink before more is read.
 /// The words are none, or the one word `--curator`, which opens exact answers.
