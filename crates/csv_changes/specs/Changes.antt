@@ -34,7 +34,7 @@ abbrev pub fault_of_kind : Kind → CsvWhat
 fault_of_kind kind.Int = what.Int
 fault_of_kind kind.Text = what.Text
 
--- the answer about a field, told of its record: the fault is what no field of this kind may be, and want of memory stays
+-- the answer about a field, told of its record: a fault is that of the column's kind, and want of memory stays
 abbrev pub at_record : ℕ → Kind → Result Atom AtomFault → Result Atom CsvFault
 at_record at kind (Ok atom) = Ok atom
 at_record at kind (Err atom_fault.Memory) = Err fault.Memory

@@ -1,10 +1,10 @@
 //! From CSV to the changes that it adds to a source.
-ghost use Rattle.std.specs.Prelude.{◌≡◌, ◌≢◌, [], ◌∷◌, All, Err, IfOk, if◌then◌else◌, option_map, true};
+ghost use Rattle.std.specs.Prelude.{◌≡◌, ◌≢◌, All, Err, IfOk, option_map, true};
 ghost use Rattle.csv.specs.Reading.{default_config, records, strip_bom};
 ghost use Rattle.csv.specs.Records.{fields_of};
 ghost use Rattle.record_text.specs.KindLists.{kinds_of};
 ghost use Rattle.csv_changes.specs.Changes.{GivesCsv, at_record, atom_at, changes_in, changes_of, fault_of_kind, row_at, weight_at, weighted_at, without_header};
-ghost use Rattle.csv_changes.specs.RecordsLeft.{IsReading, records_left};
+ghost use Rattle.csv_changes.specs.RecordsLeft.{IsReading, found_and_left, left_if, records_left};
 
 use crate::fault::{CsvFault, CsvWhat};
 use csv::{ByteRecord, ErrorKind, Reader, ReaderBuilder};
@@ -88,7 +88,7 @@ fn pass_header(
 ) -> Result<bool, Memory>
     requires { IsReading reader.old }
     ensures reads { IfOk result (λ more. more ≡ true → IsReading reader.new) }
-    ensures left { IfOk result (λ more. without_header header (records_left reader.old) ≡ (if more then records_left reader.new else [])) }
+    ensures left { IfOk result (λ more. without_header header (records_left reader.old) ≡ left_if more reader.new) }
 {
     if header {
         next_record(reader, fields)
@@ -101,7 +101,8 @@ fn pass_header(
 fn next_record(reader: &mut Reader<&[u8]>, fields: &mut ByteRecord) -> Result<bool, Memory>
     requires { IsReading reader.old }
     ensures reads { IfOk result (λ found. found ≡ true → IsReading reader.new) }
-    ensures next { IfOk result (λ found. records_left reader.old ≡ (if found then fields_of fields.new ∷ records_left reader.new else [])) }
+    ensures next { IfOk result
+        (λ found. records_left reader.old ≡ found_and_left found (fields_of fields.new) reader.new) }
 {
     match reader.read_byte_record(fields) {
         Ok(found) => Ok(found),
