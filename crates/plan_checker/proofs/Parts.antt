@@ -1,15 +1,14 @@
 -- The items of steps that are those of a plan.
-use Rattle.std.specs.Prelude.{◌≡◌, ℕ, zero, suc, ◌+◌, ◌<◌, nat_le, Bool, true, List, [], ◌∷◌, ◌++◌, length, slice_get, Some, None, option_to_list}
+use Rattle.std.specs.Prelude.{◌≡◌, ℕ, true, List, ◌++◌, length, slice_get, Some, option_to_list}
 use Rattle.std.specs.List.{list_all}
-use Rattle.std.proofs.Common.{sym, ◌∙◌, subst, arith}
-use Rattle.std.proofs.lemmas.Bool.{and_parts, leb-true}
+use Rattle.std.proofs.Common.{sym, ◌∙◌}
+use Rattle.std.proofs.lemmas.Bool.{and_parts}
 use Rattle.std.proofs.lemmas.List.Folds.{list_all-append}
 use Rattle.record_text.specs.declared.kinds.Kind.{Kind}
 use Rattle.plan_model.specs.declared.expr.Expr.{Expr}
 use Rattle.plan_model.specs.declared.step.Item.{Item}
-use Rattle.plan_model.specs.declared.step.Step.{Step}
 use Rattle.plan_model.specs.Acceptance.{have_columns, item_exprs}
-use Rattle.plan_model.specs.Limits.{are_exprs, are_steps, is_guard, is_item, is_plan, is_step}
+use Rattle.plan_model.specs.Limits.{are_exprs, is_guard, is_item}
 use Rattle.plan_model.specs.Values.{has_columns, term_of}
 use Rattle.record_text.proofs.Lists.{passes_at}
 use Rattle.plan_checker.proofs.Members.{list_all-flat_map}

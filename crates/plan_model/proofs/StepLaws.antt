@@ -1,7 +1,7 @@
 -- What each step of a plan makes, which is the first that doesn't fit, and how often an accepted plan uses a source.
-use Rattle.std.specs.Prelude.{◌≡◌, ◌<◌, ◌≤◌, ℕ, zero, suc, Bool, true, false, not, is_some, cond, if◌then◌else◌, nat_eq, nat_le, List, [], ◌∷◌, ◌++◌, length, map, slice_get, slice_index_or, Option, Some, None}
+use Rattle.std.specs.Prelude.{◌≡◌, ◌<◌, ◌≤◌, ℕ, suc, Bool, true, false, not, is_some, if◌then◌else◌, nat_eq, nat_le, List, [], ◌∷◌, ◌++◌, length, map, slice_get, slice_index_or, Option, Some, None}
 use Rattle.std.specs.List.{AllByRecursion, list_all, position, range_with_len}
-use Rattle.std.proofs.Common.{refl, sym, ap, ap₂, ◌∙◌, subst, arith, take, true≢false}
+use Rattle.std.proofs.Common.{refl, sym, ap, ap₂, ◌∙◌, arith, take, true≢false}
 use Rattle.std.proofs.lemmas.Bool.{and_parts, leb-true, ltb-true, not-true, true_from_ne_false}
 use Rattle.std.proofs.lemmas.List.FromFn.{get_or-map-range_with_len, length-map-range_with_len}
 use Rattle.std.proofs.lemmas.List.Folds.{list_any_at}
@@ -11,13 +11,13 @@ use Rattle.record_text.proofs.Lists.{passes_at}
 use Rattle.datasets.specs.Dataset.{Dataset, empty}
 use Rattle.plan_model.specs.declared.source_types.SourceType.{SourceType}
 use Rattle.plan_model.specs.declared.step.Step.{Step}
-use Rattle.plan_model.specs.Acceptance.{Accepts, are_few, max_uses}
-use Rattle.plan_model.specs.Evaluation.{Family, eval_step, evals, last_or, left_dataset, operator_of, right_dataset}
-use Rattle.plan_model.specs.Fits.{Fits, fits_if, misfit, step_fits}
+use Rattle.plan_model.specs.Acceptance.{Accepts, max_uses}
+use Rattle.plan_model.specs.Evaluation.{Family, eval_step, evals, last_or, left_dataset, operator_of}
+use Rattle.plan_model.specs.Fits.{Fits, fits_if, step_fits}
 use Rattle.plan_model.specs.Inputs.{inputs, of_inputs}
 use Rattle.plan_model.specs.Laws.{AcceptedUsesAreFew, IsFirstMisfit, MisfitIsFirst, NoMisfit, StepsAreOperators}
-use Rattle.plan_model.specs.Limits.{are_steps, is_plan, is_step}
-use Rattle.plan_model.specs.Uses.{uses, uses_at, uses_of_steps, uses_step}
+use Rattle.plan_model.specs.Limits.{is_step}
+use Rattle.plan_model.specs.Uses.{uses_at, uses_of_steps, uses_step}
 use Rattle.plan_model.proofs.Accepted.{PassesAfter, holds_accepted}
 use Rattle.plan_model.proofs.Plans.{step_of_plan}
 use Rattle.plan_model.proofs.Positions.{is_some-position, position_none}

@@ -1,6 +1,6 @@
 -- Acceptance and fits, computed.
-use Rattle.std.specs.Prelude.{◌≡◌, ℕ, Bool, ◌&&◌, true, false, not, if◌then◌else◌, List, [], ◌∷◌, Option, Some, None, pos}
-use Rattle.std.proofs.Common.{refl, ap₂, ◌∙◌, sym, subst}
+use Rattle.std.specs.Prelude.{◌≡◌, ℕ, Bool, ◌&&◌, true, false, not, if◌then◌else◌, [], ◌∷◌, Option, Some, None}
+use Rattle.std.proofs.Common.{refl, sym, subst}
 use Rattle.ratios.specs.Gcd.{gcd, gcd_within}
 use Rattle.ratios.specs.Range.{in_range}
 use Rattle.ratios.specs.Ratio.{ratio, reduced, zero_ratio}
@@ -8,14 +8,11 @@ use Rattle.record_text.specs.declared.kinds.Kind.TheVariants as kind
 use Rattle.record_text.specs.KindLists.{kinds_eq}
 use Rattle.datasets.specs.Dataset.{dataset_of, empty, set_at}
 use Rattle.plan_model.specs.Acceptance.{Fault, fault_or}
-use Rattle.plan_model.specs.Types.{set_sign}
-use Rattle.plan_model.specs.Values.{Term, col, has_columns, is_typed, kind_in, term_of}
-use Rattle.plan_model.specs.declared.expr.Expr.TheVariants.{Col}
+use Rattle.plan_model.specs.Values.{Term, has_columns, is_typed, kind_in}
 use Rattle.plan_model.specs.declared.plan.What.{What}
-use Rattle.plan_model.specs.declared.step.SetKind.{SetKind}
 use Rattle.std.specs.Option.{unwrap_or}
 use Rattle.worked_plans.specs.Accepted.{ConcatFits, ExceptIsNotCounted, JoinIsAccepted, SelectPastWidth, UnionIsCounted, UsesDouble}
-use Rattle.worked_plans.proofs.Computed.{parity_is, parity_term}
+use Rattle.worked_plans.proofs.Computed.{parity_is}
 use Rattle.plan_model.proofs.Terms.{term_of-Col}
 
 -- the fault of a step of which two checks are given

@@ -10,7 +10,7 @@ use Rattle.datasets.specs.Entries.{Row}
 use Rattle.operators.specs.Operators.{Giving, filtered, grouped, joined, spread}
 use Rattle.plan_model.specs.Evaluation.{is_true_atom, reduced_to}
 use Rattle.plan_model.specs.Values.{Term, two, col, const, term_of, value_if}
-use Rattle.plan_model.specs.declared.expr.Expr.TheVariants.{Col, Const, Two}
+use Rattle.plan_model.specs.declared.expr.Expr.TheVariants.{Col, Const}
 use Rattle.plan_model.specs.declared.step.Reducer.{Reducer}
 use Rattle.worked_plans.specs.Groups.{GroupWeights, GroupWeightsAfter}
 use Rattle.worked_plans.specs.Items.{ManyWeights, S}

@@ -7,7 +7,6 @@ use Rattle.ratios.specs.Range.{in_range}
 use Rattle.ratios.specs.Ratio.{one_ratio, ratio, reduced, zero_ratio}
 use Rattle.record_text.specs.declared.atom.Atom.TheVariants.{Int}
 use Rattle.datasets.specs.Dataset.{Dataset, dataset_of, empty, set_at}
-use Rattle.datasets.specs.Entries.{Row}
 use Rattle.operators.specs.InRange.{group_in_range, join_in_range, many_in_range, select_in_range, weights_in_range}
 use Rattle.operators.specs.Operators.{Giving, grouped, joined, selected, spread}
 use Rattle.plan_model.specs.Evaluation.{reduced_to}

@@ -1,8 +1,8 @@
 -- Which plans are accepted, and which families fit.
-use Rattle.std.specs.Prelude.{◌≡◌, ℕ, suc, zero, ◌+◌, ◌^◌, ◌-◌, List, [], ◌∷◌, Option, Some, None, pos, codes, false, true}
+use Rattle.std.specs.Prelude.{◌≡◌, ℕ, suc, zero, ◌+◌, ◌^◌, ◌-◌, List, [], ◌∷◌, Some, None, codes, false, true}
 use Rattle.record_text.specs.declared.kinds.Kind.TheVariants as kind
 use Rattle.datasets.specs.Dataset.{dataset_of}
-use Rattle.plan_model.specs.Acceptance.{Accepts, Fault, plan_fault_of}
+use Rattle.plan_model.specs.Acceptance.{Accepts, plan_fault_of}
 use Rattle.plan_model.specs.Evaluation.{Family}
 use Rattle.plan_model.specs.Fits.{misfit}
 use Rattle.plan_model.specs.Types.{columns, columns_at}
@@ -14,7 +14,6 @@ use Rattle.plan_model.specs.declared.step.Reducer.{Reducer}
 use Rattle.plan_model.specs.declared.step.SetKind.{SetKind}
 use Rattle.plan_model.specs.declared.step.Step.{Step}
 use Rattle.worked_plans.specs.Joins.{join_by_parity}
-use Rattle.worked_plans.specs.Sets.{set_plan}
 use Rattle.worked_plans.specs.Sources.{a, b, over, parity, types}
 use Rattle.worked_plans.specs.Weights.{ints}
 
