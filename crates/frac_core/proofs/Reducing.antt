@@ -11,6 +11,7 @@ use Rattle.ratios.specs.Gcd.{gcd, IsGcd-gcd}
 use Rattle.ratios.specs.Ratio.{Ratio, ratio, IsReduced, zero_ratio}
 use Rattle.ratios.specs.Code.{ratio-num, ratio-den}
 use Rattle.ratios.specs.Range.{InRange, checked}
+use Rattle.ratios.proofs.Parts.{ratio-den-reduced, ratio-num-reduced}
 use Rattle.ratios.proofs.Range.{bounds_of_InRange}
 use Rattle.ratios.proofs.Crossing.{num_not_zero}
 use Rattle.frac_core.specs.Quotient.{quotient_of}
@@ -43,6 +44,21 @@ num_out q n e h r = let b = bounds_of_InRange q r in let f = ap unsigned_abs e i
 
 pub den_out : (q : Ratio) (d : ℕ) → q.den ≡ d → 2 ^ 62 ≤ d → ¬ (InRange q)
 den_out q d e h r = let b = bounds_of_InRange q r in absurd (omega arith)
+
+-- a reduced numerator that takes more than 128 bits is out of range
+pub num_too_wide : (z : ℤ) (d : ℕ) → IsReduced z d → ¬ (SFits w128 z) → ¬ (InRange (ratio z (pos d)))
+num_too_wide z d h wide r =
+    let b = (bounds_of_InRange (ratio z (pos d)) r).0 in
+    let e = ap unsigned_abs (ratio-num-reduced z d h) in
+    let small : unsigned_abs z < 2 ^ 62 = omega (arith, b, e) in
+    wide (omega (arith, ints, small))
+
+-- so is a reduced denominator
+pub den_too_wide : (z : ℤ) (d : ℕ) → IsReduced z d → ¬ (d < 2 ^ 128) → ¬ (InRange (ratio z (pos d)))
+den_too_wide z d h wide r =
+    let b = (bounds_of_InRange (ratio z (pos d)) r).1 in
+    let e = ratio-den-reduced z d h in
+    wide (omega (arith, b, e))
 
 -- ---- products that fit
 pub quotient_fits : (w : Width) (n : ℤ) (g : ℕ) → SFits w n → SFits w (pos g) → 0 < g → SFits w (int_div (to_z w (of_z w n)) (to_z w g))

@@ -168,17 +168,50 @@ fn within_range(num: i128, den: u128) -> Option<Frac>
     })
 }
 
+// A reduced fraction with parts of 128 bits.
+#[derive(Drop)]
+struct Wide {
+    num: i128,
+    den: u128,
+}
+
+impl Model for Wide {
+    ghost use Rattle.std.specs.Prelude.{◌<◌, ◌^◌, pos};
+    ghost use Rattle.ratios.specs.Code.{ratio_code};
+    ghost use Rattle.ratios.specs.Ratio.{IsReduced, Ratio, ratio};
+
+    ghost Value = { Ratio };
+
+    ghost coded = { ratio_code };
+
+    ghost view = { λ f. ratio f.num (pos f.den) };
+
+    ghost invariant = { λ f. IsReduced f.num f.den × (f.den < 2 ^ 127) };
+}
+
+// `n / d`, reduced.
+fn lowest(n: i128, d: u128) -> Wide
+    requires positive { 0 < d }
+    requires small { d < 2 ^ 127 }
+    ensures { result ≡ ratio n (pos d) }
+{
+    let divisor = wide_greatest_common_divisor(n.unsigned_abs(), d);
+    if divisor == 1 {
+        return Wide { num: n, den: d };
+    }
+    let num = divided(n, divisor);
+    let den = d / divisor;
+    Wide { num, den }
+}
+
 // `n / d`, reduced, where it is in range.
 fn reduce(n: i128, d: u128) -> Option<Frac>
     requires positive { 0 < d }
     requires small { d < 2 ^ 127 }
     ensures { result ≡ checked (ratio n (pos d)) }
 {
-    let divisor = wide_greatest_common_divisor(n.unsigned_abs(), d);
-    if divisor == 1 {
-        return within_range(n, d);
-    }
-    within_range(divided(n, divisor), d / divisor)
+    let lowest = lowest(n, d);
+    within_range(lowest.num, lowest.den)
 }
 
 // The same of numbers of either sign.
@@ -245,6 +278,18 @@ fn denominators(a: Frac, b: Frac) -> u128
     ensures small { result < 2 ^ 124 }
 {
     u128::from(a.den) * u128::from(b.den)
+}
+
+// The product, whose parts may be out of range.
+fn product(a: Frac, b: Frac) -> Wide
+    ensures { result ≡ ratio_mul a b }
+{
+    // With each numerator reduced by the other denominator, the product is reduced.
+    let first = reduce_small(a.num, b.den);
+    let second = reduce_small(b.num, a.den);
+    let num = numerators(first, second);
+    let den = denominators(first, second);
+    Wide { num, den }
 }
 
 // The number that the digits write.
@@ -391,10 +436,8 @@ impl Frac {
     pub fn mul(self, other: Frac) -> Option<Frac>
         ensures { result ≡ checked (ratio_mul self other) }
     {
-        // With each numerator reduced by the other denominator, the product is reduced.
-        let first = reduce_small(self.num, other.den);
-        let second = reduce_small(other.num, self.den);
-        within_range(numerators(first, second), denominators(first, second))
+        let product = product(self, other);
+        within_range(product.num, product.den)
     }
 
     /// The exact quotient, or `None` where it is out of range; `other` is not 0.
@@ -403,6 +446,21 @@ impl Frac {
         ensures { result ≡ checked (ratio_div self other) }
     {
         self.mul(other.reciprocal())
+    }
+
+    /// The exact value of `self * by / over`, or `None` where it is out of range; `over` is not 0.
+    pub fn mul_div(self, by: Frac, over: Frac) -> Option<Frac>
+        requires { over ≢ zero_ratio }
+        ensures { result ≡ checked (ratio_div (ratio_mul self by) over) }
+    {
+        // Each numerator is reduced by each denominator, so that a product of more than 128 bits is out of range.
+        let inverse = over.reciprocal();
+        let product = product(self, by);
+        let first = lowest(product.num, u128::from(inverse.den));
+        let second = lowest(i128::from(inverse.num), product.den);
+        let num = first.num.checked_mul(second.num)?;
+        let den = first.den.checked_mul(second.den)?;
+        within_range(num, den)
     }
 
     // 1 over the fraction.

@@ -188,6 +188,52 @@ fn products_and_quotients_are_reduced_before_their_range_is_tested(rt: HostRunti
     }
 }
 
+// The product of two fractions over a third that is not 0.
+fn product_over(first: &str, second: &str, third: &str) -> Result<Option<Parts>, FracFault> {
+    let first = Frac::read(first.as_bytes())?;
+    let second = Frac::read(second.as_bytes())?;
+    let third = Frac::read(third.as_bytes())?;
+    if third == Frac::zero() {
+        return Err(FracFault::ZeroDenominator);
+    }
+    Ok(first.mul_div(second, third).map(parts))
+}
+
+#[test]
+fn a_product_is_divided_before_its_range_is_tested(rt: HostRuntime) {
+    const MAX: &str = "4611686018427387903";
+    const ONE_OVER_MAX: &str = "1/4611686018427387903";
+    let rows = [
+        ("2/3", "-3/4", "1/2", Some((-1, 1))),
+        ("0", "5", "-7/2", Some((0, 1))),
+        // The second over the third is 1/2^62.
+        (
+            "3145728",
+            "1/1099511627776",
+            "4194304",
+            Some((3, 4398046511104)),
+        ),
+        (MAX, MAX, MAX, Some((4611686018427387903, 1))),
+        (
+            ONE_OVER_MAX,
+            "1/4611686018427387902",
+            ONE_OVER_MAX,
+            Some((1, 4611686018427387902)),
+        ),
+        (MAX, "-1", "1/2", None),
+        // Products of more than 128 bits.
+        (MAX, MAX, ONE_OVER_MAX, None),
+        (ONE_OVER_MAX, ONE_OVER_MAX, MAX, None),
+    ];
+    for (first, second, third, answer) in rows {
+        assert_eq!(rt;
+            product_over(first, second, third),
+            Ok(answer),
+            "{first} {second} {third}"
+        );
+    }
+}
+
 // The half, and the units rounded down.
 fn half_and_units(text: &str) -> Result<(Option<Parts>, i128), FracFault> {
     let fraction = Frac::read(text.as_bytes())?;
