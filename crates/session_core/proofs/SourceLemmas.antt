@@ -2,7 +2,6 @@
 use Rattle.std.proofs.Common.{◌≡◌, ◌≢◌, ◌≤◌, ℕ, true, Bool, List, [], ◌∷◌, sym, subst, arith, inl, inr}
 use Rattle.std.specs.Prelude.{All, None, ◌⊎◌}
 use Rattle.std.proofs.lemmas.List.Elements.{All-head, All-tail}
-use Rattle.std.proofs.lemmas.Int.{ints}
 use Rattle.ratios.specs.Ratio.{zero_ratio, ◌≼◌}
 use Rattle.ratios.specs.Range.{InRange}
 use Rattle.ratios.proofs.AtMost.{at_most_itself}

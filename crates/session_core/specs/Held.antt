@@ -14,7 +14,8 @@ pub record HeldSources : Type 0 where
 
 -- a source of this type, dataset and budget
 abbrev pub source_of : SourceType → Dataset → Budget → SourceState
-source_of t A b = record { name = t.name; kinds = t.kinds; signed = t.signed; total = b.total; spent = b.spent; rows = A }
+source_of t A b =
+    record { name = t.name; kinds = t.kinds; signed = t.signed; total = b.total; spent = b.spent; rows = A }
 
 -- sources, from lists of their types, datasets and budgets
 abbrev pub sources_of : List SourceType → List Dataset → List Budget → List SourceState

@@ -32,6 +32,7 @@ use Rattle.messages.specs.declared.target.Target.{Target}
 use Rattle.messages.specs.declared.target.Target.TheVariants as target
 use Rattle.messages.specs.declared.reply.Reply.{Reply}
 use Rattle.messages.specs.declared.reply.Reply.TheVariants as reply
+use Rattle.session_core.specs.Limits.{max_plans, max_sources}
 use Rattle.session_core.specs.Named.{first_named, index_named, plan_name, source_name}
 use Rattle.session_core.specs.State.{PlanState, SourceState, State, family_of, new_plan, new_source, types_of}
 
@@ -40,7 +41,8 @@ use Rattle.session_core.specs.State.{PlanState, SourceState, State, family_of, n
 -- the first weight at which the running sum is out of range, or else the sum
 abbrev pub sum_reply : List Ratio → Reply
 sum_reply weights =
-    option_map_or (λ at. reply.Refused (refusal.SumRange at)) (first_out_of_range weights) (reply.SumOf (ratio_sum weights))
+    option_map_or (λ at. reply.Refused (refusal.SumRange at)) (first_out_of_range weights)
+    (reply.SumOf (ratio_sum weights))
 
 -- ---- declarations of sources
 
@@ -48,7 +50,7 @@ sum_reply weights =
 abbrev declared_of : Option SourceState → State → SourceState → State × Reply
 declared_of (Some other) state new = (state, reply.Refused (refusal.Exists thing.Source new.name))
 declared_of None state new =
-    if nat_le 16 (length state.sources) then (state, reply.Refused (refusal.Full thing.Source))
+    if nat_le max_sources (length state.sources) then (state, reply.Refused (refusal.Full thing.Source))
     else (record state { sources = state.sources ++ new ∷ [] }, reply.Done)
 
 unfoldable pub declared : State → SourceState → State × Reply
@@ -68,12 +70,17 @@ counts_of sources plan = map (uses plan (types_of sources)) (range_with_len 0 (l
 abbrev pub columns_of : List SourceState → List Step → List Kind
 columns_of sources plan = last_or [] (columns plan (types_of sources))
 
+-- the reply to a plan: its columns, and the sources that it uses
+abbrev pub planned_reply : List SourceState → List Step → Reply
+planned_reply sources plan =
+    reply.Planned (columns_of sources plan) (uses_named (map source_name sources) (counts_of sources plan))
+
 -- of the first fault of a plan, and of the first step that doesn't fit the sources
 abbrev pub planned_at : Option Fault → Option ℕ → State → PlanState → State × Reply
 planned_at (Some fault) out state new = (state, reply.Refused (refusal.Plan fault.step fault.what))
 planned_at None (Some step) state new = (state, reply.Refused (refusal.Range new.name step))
 planned_at None None state new =
-    (record state { plans = state.plans ++ new ∷ [] }, reply.Planned (columns_of state.sources new.plan) (uses_named (map source_name state.sources) (counts_of state.sources new.plan)))
+    (record state { plans = state.plans ++ new ∷ [] }, planned_reply state.sources new.plan)
 
 -- the step of a plan that doesn't fit the sources, the first
 abbrev pub misfit_on : List SourceState → List Step → Option ℕ
@@ -83,7 +90,7 @@ misfit_on sources plan = misfit plan (types_of sources) (family_of sources)
 abbrev planned_of : Option PlanState → State → PlanState → State × Reply
 planned_of (Some other) state new = (state, reply.Refused (refusal.Exists thing.Plan new.name))
 planned_of None state new =
-    if nat_le 32 (length state.plans) then (state, reply.Refused (refusal.Full thing.Plan))
+    if nat_le max_plans (length state.plans) then (state, reply.Refused (refusal.Full thing.Plan))
     else planned_at (plan_fault_of new.plan (types_of state.sources)) (misfit_on state.sources new.plan) state new
 
 unfoldable pub planned : State → PlanState → State × Reply
@@ -92,7 +99,8 @@ planned state new = planned_of (first_named plan_name new.name state.plans) stat
 -- the plan of this name is taken out, and the others keep their order
 abbrev dropped_of : Option PlanState → State → List ℕ → State × Reply
 dropped_of None state name = (state, reply.Refused (refusal.Unknown thing.Plan name))
-dropped_of (Some plan) state name = (record state { plans = remove state.plans (index_named plan_name name state.plans) }, reply.Done)
+dropped_of (Some plan) state name =
+    (record state { plans = remove state.plans (index_named plan_name name state.plans) }, reply.Done)
 
 unfoldable pub dropped : State → List ℕ → State × Reply
 dropped state name = dropped_of (first_named plan_name name state.plans) state name
@@ -116,6 +124,16 @@ updated_at None (Some below) unfit state new count = (state, reply.Refused (refu
 updated_at None None (Some why) state new count = (state, reply.Refused why)
 updated_at None None None state new count = (new, reply.Records count)
 
+-- the state with these sources, and the reply to what changed them
+abbrev pub updated_to : State → List SourceState → ℕ → State × Reply
+updated_to state sources count = (record state { sources = sources }, reply.Records count)
+
+-- the same, unless a plan doesn't fit these sources
+abbrev pub followed : State → List SourceState → ℕ → State × Reply
+followed state sources count =
+    updated_at None None (first_misfit (types_of sources) (family_of sources) state.plans)
+    state (record state { sources = sources }) count
+
 -- the first place whose row ends below 0, where that is not allowed
 abbrev pub below_zero : SourceState → List Weighted → Option ℕ
 below_zero source added = if source.signed then None else first_negative source.rows (entries_of added)
@@ -132,7 +150,8 @@ with_source state at source = record state { sources = slice_set state.sources a
 unfoldable pub added_at : State → ℕ → SourceState → List Weighted → State × Reply
 added_at state at source added =
     let new = with_source state at (with_weights source added) in
-    updated_at (first_weight_out_of_range source.rows (entries_of added)) (below_zero source added) (first_misfit (types_of new.sources) (family_of new.sources) state.plans) state new (length added)
+    updated_at (first_weight_out_of_range source.rows (entries_of added)) (below_zero source added)
+    (first_misfit (types_of new.sources) (family_of new.sources) state.plans) state new (length added)
 
 -- of the changes that a CSV text denotes, or the record that is none
 abbrev pub updated_by : State → ℕ → SourceState → Result (List Weighted) BadRecord → State × Reply
@@ -141,7 +160,8 @@ updated_by state at source (Ok added) = added_at state at source added
 
 abbrev updated_of : Option SourceState → State → List ℕ → List ℕ → Bool → State × Reply
 updated_of None state name csv header = (state, reply.Refused (refusal.Unknown thing.Source name))
-updated_of (Some source) state name csv header = updated_by state (index_named source_name name state.sources) source (changes_of csv source.kinds header)
+updated_of (Some source) state name csv header =
+    updated_by state (index_named source_name name state.sources) source (changes_of csv source.kinds header)
 
 unfoldable pub updated : State → List ℕ → List ℕ → Bool → State × Reply
 updated state name csv header = updated_of (first_named source_name name state.sources) state name csv header
@@ -156,23 +176,32 @@ first_row_fault kinds before at (row ∷ rows) =
     else if has_row before row then Some (refusal.Repeat at)
     else first_row_fault kinds (before ++ row ∷ []) (at + 1) rows
 
--- the weights of the rows in a dataset of these columns, or the first row that can't be looked up; without the curator none is told
+-- why rows can't be looked up under these columns: without the curator none can, and else the first that can't
+abbrev pub row_refusal : Bool → List Kind → List Row → Option Refusal
+row_refusal false kinds rows = Some refusal.Curator
+row_refusal true kinds rows = first_row_fault kinds [] 0 rows
+
+-- the weights of the rows in a dataset of these columns, or why they can't be looked up
 abbrev pub looked_up : Bool → List Kind → Dataset → List Row → Reply
-looked_up false kinds A rows = reply.Refused refusal.Curator
-looked_up true kinds A rows =
-    option_map_or (λ why. reply.Refused why) (first_row_fault kinds [] 0 rows) (reply.Weights (map (at A) rows))
+looked_up curator kinds A rows =
+    option_map_or (λ why. reply.Refused why) (row_refusal curator kinds rows) (reply.Weights (map (at A) rows))
 
 abbrev exact_in_source : Option SourceState → Bool → List ℕ → List Row → Reply
 exact_in_source None curator name rows = reply.Refused (refusal.Unknown thing.Source name)
 exact_in_source (Some source) curator name rows = looked_up curator source.kinds source.rows rows
 
+-- the output of a plan on the sources
+abbrev pub output_of : List SourceState → List Step → Dataset
+output_of sources plan = eval plan (types_of sources) (family_of sources)
+
 abbrev exact_in_plan : Option PlanState → State → List ℕ → List Row → Reply
 exact_in_plan None state name rows = reply.Refused (refusal.Unknown thing.Plan name)
 exact_in_plan (Some plan) state name rows =
-    looked_up state.curator (columns_of state.sources plan.plan) (eval plan.plan (types_of state.sources) (family_of state.sources)) rows
+    looked_up state.curator (columns_of state.sources plan.plan) (output_of state.sources plan.plan) rows
 
 unfoldable pub exact_reply : State → Target → List Row → Reply
-exact_reply state (target.Source name) rows = exact_in_source (first_named source_name name state.sources) state.curator name rows
+exact_reply state (target.Source name) rows =
+    exact_in_source (first_named source_name name state.sources) state.curator name rows
 exact_reply state (target.Plan name) rows = exact_in_plan (first_named plan_name name state.plans) state name rows
 
 -- ---- one step
@@ -199,7 +228,8 @@ step state line = let outcome = answered state (request_on line) in (outcome.0, 
 -- the call did what the outcome says and appended its reply, or there was no memory and it did nothing
 abbrev pub Responds : {S : Type 0} → Result (Unit {0}) AllocError → S → S × Reply → S → List ℕ → List ℕ → Type 0
 Responds result old outcome new before after =
-    MatchResult result (λ _. (new ≡ outcome.0) × (after ≡ before ++ reply_line outcome.1)) (λ _. (new ≡ old) × (after ≡ before))
+    MatchResult result (λ _. (new ≡ outcome.0) × (after ≡ before ++ reply_line outcome.1))
+    (λ _. (new ≡ old) × (after ≡ before))
 
 -- the line is answered by the step, and no request takes noise yet
 pub record Stepped (old : State) (line : List ℕ) (given : List (ℕ × ℤ)) (reply : List ℕ) (new : State) : Type 0 where

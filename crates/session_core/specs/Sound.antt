@@ -12,6 +12,7 @@ use Rattle.plan_model.specs.Acceptance.{Accepts}
 use Rattle.plan_model.specs.Fits.{misfit}
 use Rattle.plan_model.specs.Limits.{is_plan}
 use Rattle.plan_reader.specs.Plans.{is_built}
+use Rattle.session_core.specs.Limits.{max_budget, max_plans, max_sources}
 use Rattle.session_core.specs.Named.{plan_name, source_name}
 use Rattle.session_core.specs.State.{PlanState, SourceState, State, family_of, types_of}
 
@@ -25,7 +26,7 @@ pub record IsSoundSource (source : SourceState) : Type 0 where
   pub typed : KeepsType source.kinds source.signed source.rows
   pub in_range : (row : Row) → InRange (at source.rows row)
   pub spent_within : source.spent ≤ source.total
-  pub total_within : source.total ≤ 1000000000000000
+  pub total_within : source.total ≤ max_budget
 
 -- the plan is one that can be read, is accepted for the sources and fits them
 pub record IsSoundPlan (sources : List SourceState) (plan : PlanState) : Type 0 where
@@ -36,8 +37,8 @@ pub record IsSoundPlan (sources : List SourceState) (plan : PlanState) : Type 0 
 
 -- at most 16 sources and 32 plans, of distinct names in each list, each of them sound
 pub record Sound (state : State) : Type 0 where
-  pub few : length state.sources ≤ 16
-  pub few_plans : length state.plans ≤ 32
+  pub few : length state.sources ≤ max_sources
+  pub few_plans : length state.plans ≤ max_plans
   pub distinct : IsDistinct name_eq (map source_name state.sources)
   pub distinct_plans : IsDistinct name_eq (map plan_name state.plans)
   pub all_sound : All IsSoundSource state.sources

@@ -1,12 +1,12 @@
 -- What the request machine keeps between two lines.
-use Rattle.std.specs.Prelude.{ℕ, Bool, List, [], map}
+use Rattle.std.specs.Prelude.{◌≡◌, ℕ, Bool, List, [], Some, map, slice_get}
 use Rattle.record_text.specs.declared.kinds.Kind.{Kind}
 use Rattle.datasets.specs.Dataset.{Dataset, empty}
 use Rattle.plan_model.specs.Evaluation.{Family}
 use Rattle.plan_model.specs.declared.source_types.SourceType.{SourceType}
 use Rattle.plan_model.specs.declared.step.Step.{Step}
 
--- a source: its name and type, its budget and what is spent of it in millionths of epsilon, and its rows with their weights
+-- a source: its name and type, its budget and what is spent of it in millionths of epsilon, and its weighted rows
 pub record SourceState : Type 0 where
   pub name : List ℕ
   pub kinds : List Kind
@@ -32,7 +32,16 @@ start_state curator = record { curator = curator; sources = []; plans = [] }
 
 -- a source as it is declared
 abbrev pub new_source : List ℕ → List Kind → Bool → ℕ → SourceState
-new_source name kinds signed total = record { name = name; kinds = kinds; signed = signed; total = total; spent = 0; rows = empty }
+new_source name kinds signed total =
+    record { name = name; kinds = kinds; signed = signed; total = total; spent = 0; rows = empty }
+
+-- a source of this type as it is declared
+abbrev pub new_of_type : SourceType → ℕ → SourceState
+new_of_type source_type total = new_source source_type.name source_type.kinds source_type.signed total
+
+-- what holds of the source at a place
+abbrev pub OfSource : List SourceState → ℕ → (SourceState → Type 0) → Type 0
+OfSource sources at P = (source : SourceState) → slice_get sources at ≡ Some source → P source
 
 -- a plan under a name
 abbrev pub new_plan : List ℕ → List Step → PlanState

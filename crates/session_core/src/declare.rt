@@ -3,6 +3,7 @@ ghost use Rattle.std.specs.Prelude.{◌≡◌, ◌≤◌, IfOk, IsTrue, length, 
 ghost use Rattle.plan_model.specs.Limits.{is_plan};
 ghost use Rattle.plan_reader.specs.Plans.{is_built};
 ghost use Rattle.plan_checker.specs.Checked.{IsChecked};
+ghost use Rattle.session_core.specs.Limits.{max_budget};
 ghost use Rattle.session_core.specs.Machine.{declared, dropped, planned, uses_named};
 ghost use Rattle.session_core.specs.Named.{place_named, plan_name, source_name};
 ghost use Rattle.session_core.specs.Parts.{AreSettled, Does, IsNewPlan, state_of};
@@ -32,8 +33,9 @@ impl Parts {
         reply: &mut Vec<u8>,
     ) -> Result<(), Memory>
         requires settled { AreSettled self.old }
-        requires budget { budget ≤ 1000000000000000 }
-        ensures { Does result self.old (declared (state_of self.old) (new_source name kinds signed budget)) self.new reply.old.items reply.new.items }
+        requires budget { budget ≤ max_budget }
+        ensures { Does result self.old (declared (state_of self.old) (new_source name kinds signed budget))
+            self.new reply.old.items reply.new.items }
     {
         let what = Thing::Source;
         if self.sources.place_of(name).is_some() {
@@ -69,7 +71,8 @@ impl Parts {
         requires settled { AreSettled self.old }
         requires built { IsTrue (is_built plan) }
         requires limits { IsTrue (is_plan plan) }
-        ensures { Does result self.old (planned (state_of self.old) (new_plan name plan)) self.new reply.old.items reply.new.items }
+        ensures { Does result self.old (planned (state_of self.old) (new_plan name plan))
+            self.new reply.old.items reply.new.items }
     {
         let what = Thing::Plan;
         if self.plan_place(name).is_some() {
@@ -99,7 +102,8 @@ impl Parts {
         requires built { IsTrue (is_built plan) }
         requires limits { IsTrue (is_plan plan) }
         requires checked { IsChecked plan (types_of self.old.sources.committed) checked.now }
-        ensures { Does result self.old (planned (state_of self.old) (new_plan name plan)) self.new reply.old.items reply.new.items }
+        ensures { Does result self.old (planned (state_of self.old) (new_plan name plan))
+            self.new reply.old.items reply.new.items }
     {
         let types = self.sources.types();
         let sets = self.sources.sets();
@@ -127,7 +131,8 @@ impl Parts {
     /// Takes a plan out and appends the reply.
     pub fn drop_plan(&mut self, name: Name, reply: &mut Vec<u8>) -> Result<(), Memory>
         requires { AreSettled self.old }
-        ensures { Does result self.old (dropped (state_of self.old) name) self.new reply.old.items reply.new.items }
+        ensures { Does result self.old (dropped (state_of self.old) name)
+            self.new reply.old.items reply.new.items }
     {
         let Some(at) = self.plan_place(name) else {
             let what = Thing::Plan;

@@ -2,7 +2,7 @@
 ghost use Rattle.std.specs.Prelude.{◌≡◌, [], IfOk, map};
 ghost use Rattle.datasets.specs.Dataset.{at};
 ghost use Rattle.messages.specs.declared.target.Target.TheVariants as target;
-ghost use Rattle.session_core.specs.Machine.{exact_reply, first_row_fault};
+ghost use Rattle.session_core.specs.Machine.{exact_reply, first_row_fault, row_refusal};
 ghost use Rattle.session_core.specs.Parts.{AreSettled, state_of};
 
 use crate::parts::Parts;
@@ -40,10 +40,8 @@ impl Parts {
             let what = Thing::Source;
             return Ok(Reply::Refused(Refusal::Unknown { what, name }));
         };
-        if !self.curator {
-            return Ok(Reply::Refused(Refusal::Curator));
-        }
-        if let Some(refusal) = row_fault(self.sources.source_type(at).kinds, rows) {
+        let kinds = self.sources.source_type(at).kinds;
+        if let Some(refusal) = self.row_refusal(kinds, rows) {
             return Ok(Reply::Refused(refusal));
         }
         let weights = weights_in(self.alloc, self.sources.sets().at(at), rows)?;
@@ -59,21 +57,29 @@ impl Parts {
     ) -> Result<Reply, Memory>
         requires { AreSettled self.now }
         ensures work { steps.new ≡ steps.old }
-        ensures reply { IfOk result (λ reply. reply ≡ exact_reply (state_of self.now) (target.Plan name) rows.now) }
+        ensures reply { IfOk result
+            (λ reply. reply ≡ exact_reply (state_of self.now) (target.Plan name) rows.now) }
     {
         let Some(at) = self.plan_place(name) else {
             let what = Thing::Plan;
             return Ok(Reply::Refused(Refusal::Unknown { what, name }));
         };
-        if !self.curator {
-            return Ok(Reply::Refused(Refusal::Curator));
-        }
         let planned = &self.plans[at];
-        if let Some(refusal) = row_fault(planned.cols, rows) {
+        if let Some(refusal) = self.row_refusal(planned.cols, rows) {
             return Ok(Reply::Refused(refusal));
         }
         let weights = planned.weights(self.alloc, rows, steps)?;
         Ok(Reply::Weights { weights })
+    }
+
+    // Why the rows can't be looked up in a dataset of these columns.
+    fn row_refusal(&self, kinds: Kinds, rows: &[Row]) -> Option<Refusal>
+        ensures { result ≡ row_refusal self.now.curator kinds rows.now }
+    {
+        if !self.curator {
+            return Some(Refusal::Curator);
+        }
+        row_fault(kinds, rows)
     }
 }
 

@@ -32,7 +32,8 @@ pub struct Parts {
 }
 
 impl Parts {
-    /// No sources and no plans. It takes the room for all of them.
+    /// No sources and no plans. It takes the room for the names of `MAX_SOURCES` sources and of `MAX_PLANS` plans,
+    /// for the budgets of the sources, and for the list of the plans.
     pub fn new(alloc: Global, curator: bool) -> Result<Parts, Memory>
         ensures settled { IfOk result AreSettled }
         ensures state { IfOk result (λ parts. state_of parts ≡ start_state curator) }
@@ -54,7 +55,8 @@ impl Parts {
         steps: &mut Steps<L>,
     ) -> Result<(), Memory>
         requires { AreSettled self.old }
-        ensures does { Does result self.old (answered (state_of self.old) (request_on line.now)) self.new reply.old.items reply.new.items }
+        ensures does { Does result self.old (answered (state_of self.old) (request_on line.now))
+            self.new reply.old.items reply.new.items }
         ensures work { is_still (request_on line.now) ≡ true → steps.new ≡ steps.old }
     {
         match read_request(self.alloc, line) {
@@ -73,7 +75,8 @@ impl Parts {
     ) -> Result<(), Memory>
         requires settled { AreSettled self.old }
         requires limits { IsWithinLimits request }
-        ensures does { Does result self.old (performed (state_of self.old) request) self.new reply.old.items reply.new.items }
+        ensures does { Does result self.old (performed (state_of self.old) request)
+            self.new reply.old.items reply.new.items }
         ensures work { is_still (Ok request) ≡ true → steps.new ≡ steps.old }
     {
         match request {

@@ -38,7 +38,9 @@ impl Model for Session {
 }
 
 impl Session {
-    /// A session without sources and plans. It takes the room for all of them.
+    /// A session without sources and plans. It takes the room for the names of 16 sources and of 32 plans, for
+    /// the budgets of the sources, and for the list of the plans. What else a declaration needs, it takes when it
+    /// comes, and gives it back where there is no memory for the rest.
     pub fn new(alloc: Global, curator: bool) -> Result<Session, Memory>
         ensures { IfOk result (λ session. session ≡ start_state curator) }
     {
@@ -57,7 +59,8 @@ impl Session {
         steps: &mut Steps<L>,
     ) -> Result<(), Memory>
         requires { 0 < length line.now }
-        ensures answered { LineAnswered (N.given noise.old) (N.given noise.new) self.old line.now result reply.new.items self.new }
+        ensures answered { LineAnswered (N.given noise.old) (N.given noise.new)
+            self.old line.now result reply.new.items self.new }
         ensures sound { Sound self.new }
         ensures work { is_still (request_on line.now) ≡ true → steps.new ≡ steps.old }
         ensures emptied { OnErr result (reply.new.items ≡ []) }

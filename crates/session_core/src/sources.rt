@@ -5,9 +5,10 @@ ghost use Rattle.plan_model.specs.Sources.{has_name};
 ghost use Rattle.weighted_set.specs.Adding.{AreChangesOfAdding, IsAddFault};
 ghost use Rattle.weighted_set.specs.Changes.{entries_of};
 ghost use Rattle.session_core.specs.Flow.{committed_family, pending_family};
+ghost use Rattle.session_core.specs.Limits.{max_sources};
 ghost use Rattle.session_core.specs.Machine.{with_weights};
 ghost use Rattle.session_core.specs.Named.{place_named, source_name};
-ghost use Rattle.session_core.specs.State.{SourceState, family_of, new_source, types_of};
+ghost use Rattle.session_core.specs.State.{OfSource, family_of, new_of_type, types_of};
 
 use crate::budget::Budget;
 use indexmap::IndexSet;
@@ -36,6 +37,7 @@ impl Model for Sources {
     ghost use Rattle.indexmap.specs.IndexSet.{spare};
     ghost use Rattle.datasets.specs.Code.{dataset_code};
     ghost use Rattle.session_core.specs.Held.{AreAlike, HeldSources, held_sources};
+    ghost use Rattle.session_core.specs.Limits.{max_sources};
 
     ghost Value = { HeldSources };
 
@@ -44,12 +46,12 @@ impl Model for Sources {
     ghost view = { λ s. held_sources s.types s.sets s.budgets.items };
 
     ghost invariant = { λ s. AreAlike s.names.keys s.types s.sets s.budgets.items
-        × (16 ≤ spare s.names + vec_len s.budgets)
-        × (16 ≤ vec_capacity s.budgets) };
+        × (max_sources ≤ spare s.names + vec_len s.budgets)
+        × (max_sources ≤ vec_capacity s.budgets) };
 }
 
 impl Sources {
-    /// No sources. It takes the room for 16 names and budgets.
+    /// No sources. It takes the room for the names and the budgets of `MAX_SOURCES`.
     pub fn new(alloc: Global) -> Result<Sources, Memory>
         ensures committed { IfOk result (λ sources. sources.committed ≡ []) }
         ensures pending { IfOk result (λ sources. sources.pending ≡ []) }
@@ -99,12 +101,14 @@ impl Sources {
         self.types.at(at)
     }
 
-    /// Appends a source without rows, of which nothing is spent. After `Memory` nothing is changed.
+    /// Appends a source without rows, of which nothing is spent. After `Memory` nothing is changed: the type is
+    /// taken out again where there is no memory for the set, and the name and the budget have their room.
     pub fn push(&mut self, alloc: Global, source_type: SourceType, total: u64) -> Result<(), Memory>
-        requires few { length self.old.committed < 16 }
+        requires few { length self.old.committed < max_sources }
         requires fresh { has_name (types_of self.old.committed) source_type.name ≡ false }
-        ensures committed { OnOk result (self.new.committed ≡ self.old.committed ++ new_source source_type.name source_type.kinds source_type.signed total ∷ []) }
-        ensures pending { OnOk result (self.new.pending ≡ self.old.pending ++ new_source source_type.name source_type.kinds source_type.signed total ∷ []) }
+        ensures committed { OnOk result
+            (self.new.committed ≡ self.old.committed ++ new_of_type source_type total ∷ []) }
+        ensures pending { OnOk result (self.new.pending ≡ self.old.pending ++ new_of_type source_type total ∷ []) }
         ensures err { OnErr result (self.new ≡ self.old) }
     {
         let name = source_type.name;
@@ -124,9 +128,12 @@ impl Sources {
         requires settled { self.old.pending ≡ self.old.committed }
         requires place { at < length self.old.committed }
         ensures committed { self.new.committed ≡ self.old.committed }
-        ensures changes { IfOk result (λ changes. (source : SourceState) → slice_get self.old.committed at ≡ Some source → AreChangesOfAdding source.rows added.now source.signed changes.items) }
-        ensures pending { OnOk result ((source : SourceState) → slice_get self.old.committed at ≡ Some source → self.new.pending ≡ slice_set self.old.committed at (with_weights source added.now)) }
-        ensures err { IfErr result (λ e. (source : SourceState) → slice_get self.old.committed at ≡ Some source → IsAddFault source.rows added.now source.signed e) }
+        ensures changes { IfOk result (λ changes. OfSource self.old.committed at
+            (λ source. AreChangesOfAdding source.rows added.now source.signed changes.items)) }
+        ensures pending { OnOk result (OfSource self.old.committed at
+            (λ source. self.new.pending ≡ slice_set self.old.committed at (with_weights source added.now))) }
+        ensures err { IfErr result (λ e. OfSource self.old.committed at
+            (λ source. IsAddFault source.rows added.now source.signed e)) }
         ensures none_pending { OnErr result (self.new.pending ≡ self.old.committed) }
     {
         let signed = self.types.at(at).signed;

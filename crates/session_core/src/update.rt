@@ -1,10 +1,9 @@
 //! Weights that are added to a source, and what follows from them in the plans.
-ghost use Rattle.std.specs.Prelude.{◌≡◌, ◌<◌, All, None, Some, length, slice_get};
+ghost use Rattle.std.specs.Prelude.{◌≡◌, ◌<◌, All, length};
 ghost use Rattle.record_text.specs.KindLists.{kinds_of};
-ghost use Rattle.messages.specs.declared.reply.Reply.TheVariants as answer;
-ghost use Rattle.session_core.specs.Machine.{added_at, first_misfit, updated, updated_at};
+ghost use Rattle.session_core.specs.Machine.{added_at, followed, updated, updated_to};
 ghost use Rattle.session_core.specs.Parts.{AreHeld, ArePending, ArePrepared, AreSettled, Does, state_of};
-ghost use Rattle.session_core.specs.State.{SourceState, family_of, types_of};
+ghost use Rattle.session_core.specs.State.{OfSource};
 
 use crate::parts::Parts;
 use crate::plans::{PlansFault, abort_all, commit_all, prepare_all};
@@ -25,7 +24,8 @@ impl Parts {
         steps: &mut Steps<L>,
     ) -> Result<(), Memory>
         requires { AreSettled self.old }
-        ensures { Does result self.old (updated (state_of self.old) name csv.now header) self.new reply.old.items reply.new.items }
+        ensures { Does result self.old (updated (state_of self.old) name csv.now header)
+            self.new reply.old.items reply.new.items }
     {
         let Some(at) = self.sources.place_of(name) else {
             let what = Thing::Source;
@@ -49,8 +49,11 @@ impl Parts {
     ) -> Result<(), Memory>
         requires settled { AreSettled self.old }
         requires place { at < length self.old.sources.committed }
-        requires kinds { (source : SourceState) → slice_get self.old.sources.committed at ≡ Some source → All (λ one. kinds_of one.row ≡ source.kinds) added.now }
-        ensures { (source : SourceState) → slice_get self.old.sources.committed at ≡ Some source → Does result self.old (added_at (state_of self.old) at source added.now) self.new reply.old.items reply.new.items }
+        requires kinds { OfSource self.old.sources.committed at
+            (λ source. All (λ one. kinds_of one.row ≡ source.kinds) added.now) }
+        ensures { OfSource self.old.sources.committed at
+            (λ source. Does result self.old (added_at (state_of self.old) at source added.now)
+            self.new reply.old.items reply.new.items) }
     {
         match self.sources.prepare(at, added) {
             Ok(changes) => { self.follow(at, changes.as_slice(), added.len() as u64, reply, steps) }
@@ -71,7 +74,8 @@ impl Parts {
         steps: &mut Steps<L>,
     ) -> Result<(), Memory>
         requires { ArePending self.old at changes.now }
-        ensures { let pending = self.old.sources.pending in Does result self.old (updated_at None None (first_misfit (types_of pending) (family_of pending) (state_of self.old).plans) (state_of self.old) (record (state_of self.old) { sources = pending }) count) self.new reply.old.items reply.new.items }
+        ensures { Does result self.old (followed (state_of self.old) self.old.sources.pending count)
+            self.new reply.old.items reply.new.items }
     {
         match prepare_all(self.plans.as_mut_slice(), at, changes, steps) {
             Ok(()) => self.settle(count, reply),
@@ -90,7 +94,8 @@ impl Parts {
     // Makes what is pending the state and appends the reply.
     fn settle(&mut self, count: u64, reply: &mut Vec<u8>) -> Result<(), Memory>
         requires { ArePrepared self.old }
-        ensures { Does result self.old (record (state_of self.old) { sources = self.old.sources.pending }, answer.Records count) self.new reply.old.items reply.new.items }
+        ensures { Does result self.old (updated_to (state_of self.old) self.old.sources.pending count)
+            self.new reply.old.items reply.new.items }
     {
         match write_reply(self.alloc, &Reply::Records { count }, reply) {
             Ok(()) => {

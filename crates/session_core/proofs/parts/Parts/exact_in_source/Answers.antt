@@ -9,7 +9,7 @@ use Rattle.weighted_set.specs.Held.{HeldDatasets}
 use Rattle.session_core.specs.Named.{source_name}
 use Rattle.session_core.specs.Parts.{state_of}
 use Rattle.session_core.specs.State.{SourceState}
-use Rattle.session_core.proofs.LookedUp.{looked_up-fault, looked_up-weights, source_closed, source_known, source_unknown}
+use Rattle.session_core.proofs.LookedUp.{looked_up-refused, looked_up-weights, source_known, source_unknown}
 use Rattle.session_core.proofs.Outcomes.{place_within}
 use Rattle.session_core.proofs.Turned.{rows_here, somewhere, type_here}
 use Rattle.session_core.proofs.parts.Parts.exact_in_source.Goals as goal
@@ -17,17 +17,14 @@ use Rattle.session_core.proofs.parts.Parts.exact_in_source.Goals as goal
 pub returns-in_default : goal.returns-in_default
 returns-in_default c = sym (source_unknown (state_of c.args.self.now) c.args.name c.args.rows.now (sym c.in_default.ensures))
 
-pub returns-then-not-self : goal.returns-then-not-self
-returns-then-not-self c = sym (source_closed (state_of c.args.self.now) c.args.name c.args.rows.now c.in-Some.at (sym c.in-Some.ensures) c.if-not-self.true)
-
-pub returns-in-Some-row_fault : goal.returns-in-Some-row_fault
-returns-in-Some-row_fault c =
+pub returns-in-Some-row_refusal : goal.returns-in-Some-row_refusal
+returns-in-Some-row_refusal c =
     let sources = c.args.self.now.sources.committed in
     let there = somewhere sources c.in-Some.at (place_within source_name c.args.name sources c.in-Some.at (sym c.in-Some.ensures)) in
-    let typed = type_here sources c.in-Some.at there.0 c.source_type.result there.1 c.source_type.ensures in
+    let typed = type_here sources c.in-Some.at there.0 c.source_type-kinds.result there.1 c.source_type-kinds.ensures in
     sym (source_known (state_of c.args.self.now) c.args.name c.args.rows.now c.in-Some.at there.0 (sym c.in-Some.ensures) (sym (get_or_from_slice_get sources c.in-Some.at there.0 there.0 there.1))
-    ∙ looked_up-fault c.args.self.now.curator there.0.kinds there.0.rows c.args.rows.now c.in-Some-row_fault.refusal c.if-not-self.false
-    (rw (ap (λ (t : SourceType). t.kinds) typed) c.in-Some-row_fault.ensures))
+    ∙ looked_up-refused c.args.self.now.curator there.0.kinds there.0.rows c.args.rows.now c.in-Some-row_refusal.refusal
+    (rw (ap (λ (t : SourceType). t.kinds) typed) c.in-Some-row_refusal.ensures))
 
 pub at-requires : goal.at-requires
 at-requires c =
@@ -41,7 +38,7 @@ pub returns : goal.returns
 returns c =
     let sources = c.args.self.now.sources.committed in
     let there = somewhere sources c.in-Some.at (place_within source_name c.args.name sources c.in-Some.at (sym c.in-Some.ensures)) in
-    let typed = type_here sources c.in-Some.at there.0 c.source_type.result there.1 c.source_type.ensures in
+    let typed = type_here sources c.in-Some.at there.0 c.source_type-kinds.result there.1 c.source_type-kinds.ensures in
     let held =
     sym (ap (λ (F : List Dataset). slice_get F c.in-Some.at) c.sets.ensures.committed)
     ∙ slice_get-map (λ (set : HeldDatasets). set.committed) c.sets.result.now c.in-Some.at
@@ -49,5 +46,5 @@ returns c =
     let rows = rows_here sources c.in-Some.at there.0 c.at.result.now.committed there.1 held in
     ap reply.Weights (c.in_ok-weights.ensures ∙ ap (λ (A : Dataset). map (at A) c.args.rows.now) (sym rows))
     ∙ sym (source_known (state_of c.args.self.now) c.args.name c.args.rows.now c.in-Some.at there.0 (sym c.in-Some.ensures) (sym (get_or_from_slice_get sources c.in-Some.at there.0 there.0 there.1))
-    ∙ looked_up-weights c.args.self.now.curator there.0.kinds there.0.rows c.args.rows.now c.if-not-self.false
-    (rw (ap (λ (t : SourceType). t.kinds) typed) c.in_default-row_fault.ensures))
+    ∙ looked_up-weights c.args.self.now.curator there.0.kinds there.0.rows c.args.rows.now
+    (rw (ap (λ (t : SourceType). t.kinds) typed) c.in_default-row_refusal.ensures))
