@@ -25,7 +25,8 @@ use Rattle.weighted_set.specs.Held.{AllInRange}
 use Rattle.weighted_set.specs.Parts.{part_of}
 use Rattle.weighted_set.proofs.Parts.{at-part_of, entries_have_weights, part_of-set_at}
 use Rattle.weighted_set.proofs.Running.{entry_is, length-entries_of}
-use Rattle.weighted_set.proofs.Sets.{AllInRange-set_at, apart_from_all}
+use Rattle.weighted_set.proofs.Sets.{AllInRange-set_at}
+use Rattle.weighted_set.proofs.TouchedRows.{apart_from_all}
 use Rattle.flow_graph.specs.Products.{with_products}
 use Rattle.flow_graph.specs.Standing.{ArePartsOf}
 

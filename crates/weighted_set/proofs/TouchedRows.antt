@@ -17,7 +17,7 @@ both_not : (a b : Bool) → a ≡ false → b ≡ false → (a || (b || false)) 
 both_not a b h k = ap (λ c. c || (b || false)) h ∙ ap (λ c. c || false) k
 
 -- a row that is none of these is not the last of them, nor one of the others
-apart_from_all : (ts : List Row) (x y : Row) → has_row (ts ++ x ∷ []) y ≡ false → (has_row ts y ≡ false) × (same_row y x ≡ false)
+pub apart_from_all : (ts : List Row) (x y : Row) → has_row (ts ++ x ∷ []) y ≡ false → (has_row ts y ≡ false) × (same_row y x ≡ false)
 apart_from_all ts x y h = none_of_both (has_row ts y) (same_row y x) (sym (list_any-append (same_row y) ts (x ∷ [])) ∙ h)
 
 apart_from_more : (ts : List Row) (x y : Row) → has_row ts y ≡ false → same_row y x ≡ false → has_row (ts ++ x ∷ []) y ≡ false
