@@ -1,5 +1,7 @@
+pub mod Faults
 pub mod Stepping
 pub mod Pairs
 pub mod Evaluated
 pub mod Next
-pub mod Graphs
+pub mod RowsHeld
+pub mod NodesWired

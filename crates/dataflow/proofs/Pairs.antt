@@ -5,8 +5,8 @@ use Rattle.std.proofs.lemmas.Bool.Decides.{eqb_tells, leb_tells}
 use Rattle.std.proofs.lemmas.List.{length-map}
 use Rattle.std.proofs.lemmas.Option.{slice_get-get_or, slice_get_within}
 use Rattle.datasets.specs.Dataset.{Dataset}
-use Rattle.weighted_set.specs.declared.operator.Operator.{Ghosts}
-use Rattle.dataflow.specs.Standing.{EachPair, KeepsInputs, MeanSame}
+use Rattle.weighted_set.specs.Standing.{Standing}
+use Rattle.dataflow.specs.Standing.{EachPair, KeepsInputs, meanings}
 
 -- ---- lists with one element set
 
@@ -88,35 +88,22 @@ map_of_pairs f (x ∷ xs) (y ∷ ys) size same =
 
 -- ---- operators
 
--- m means what n means
-pub record MeansSame {N : Type 0} (op : Ghosts N) (n m : N) : Type 0 where
-  pub output : op.output m ≡ op.output n
-  pub fits : op.fits m ≡ op.fits n
-  pub takes : (A B : Dataset) → op.Takes n A B ↔ op.Takes m A B
-
-pub MeansSame-itself : {N : Type 0} (op : Ghosts N) (n : N) → MeansSame op n n
-MeansSame-itself op n = record { output = refl; fits = refl; takes = λ A B. ((λ t. t), (λ t. t)) }
-
-pub mean_same : {N : Type 0} (op : Ghosts N) (old new : List N) → length new ≡ length old → EachPair (MeansSame op) old new → MeanSame op old new
-mean_same op old new size same = record {
-  outputs = map_of_pairs op.output old new size (λ i n m e f. (same i n m e f).output);
-  fits = map_of_pairs op.fits old new size (λ i n m e f. (same i n m e f).fits);
-  takes = λ i n m e f. (same i n m e f).takes;
-}
-
 -- m stands for what n stands for, and means what n means
-abbrev pub IsKept : {N : Type 0} → Ghosts N → N → N → Type 0
-IsKept op n m = KeepsInputs op n m × MeansSame op n m
+abbrev pub IsKept : {N : Type 0} → (N → Standing) → N → N → Type 0
+IsKept of n m = KeepsInputs of n m × ((of m).meaning ≡ (of n).meaning)
 
-pub all_kept : {N : Type 0} (op : Ghosts N) (old new : List N) (i : ℕ) → Passed (λ _ n m. IsKept op n m) old new i → EachPair (KeepsInputs op) old new × MeanSame op old new
-all_kept op old new i so_far =
-    let each : EachPair (IsKept op) old new = pairs_of (IsKept op) old new i (λ n. ((λ A B s. s), MeansSame-itself op n)) so_far in
-    ((λ j n m e f. (each j n m e f).0), mean_same op old new so_far.size (λ j n m e f. (each j n m e f).1))
+pub same_meanings : {N : Type 0} (of : N → Standing) (old new : List N) → length new ≡ length old → EachPair (λ n m. (of m).meaning ≡ (of n).meaning) old new → meanings of new ≡ meanings of old
+same_meanings of old new size same = map_of_pairs (λ n. (of n).meaning) old new size same
+
+pub all_kept : {N : Type 0} (of : N → Standing) (old new : List N) (i : ℕ) → Passed (λ _ n m. IsKept of n m) old new i → EachPair (KeepsInputs of) old new × (meanings of new ≡ meanings of old)
+all_kept of old new i so_far =
+    let each : EachPair (IsKept of) old new = pairs_of (IsKept of) old new i (λ n. ((λ A B s. s), refl)) so_far in
+    ((λ j n m e f. (each j n m e f).0), same_meanings of old new so_far.size (λ j n m e f. (each j n m e f).1))
 
 -- ---- one call after another
 
-pub length_of-MeanSame : {N : Type 0} (op : Ghosts N) (old new : List N) → MeanSame op old new → length new ≡ length old
-length_of-MeanSame op old new same = sym (length-map new op.output) ∙ ap length same.outputs ∙ length-map old op.output
+pub same_count : {N : Type 0} (of : N → Standing) (old new : List N) → meanings of new ≡ meanings of old → length new ≡ length old
+same_count of old new same = sym (length-map new (λ n. (of n).meaning)) ∙ ap length same ∙ length-map old (λ n. (of n).meaning)
 
 -- facts of pairs that follow each other
 pub pairs-twice : {A : Type 0} (P Q R : A → A → Type 0) (xs ys zs : List A) → length ys ≡ length xs → ((x y z : A) → P x y → Q y z → R x z) → EachPair P xs ys → EachPair Q ys zs → EachPair R xs zs
@@ -126,14 +113,5 @@ pairs-twice P Q R xs ys zs size means p q i x z e f =
     let here : slice_get ys i ≡ Some y = slice_get-get_or ys i x (omega arith) in
     means x y z (p i x y e here) (q i y z here f)
 
-pub KeepsInputs-twice : {N : Type 0} (op : Ghosts N) (xs ys zs : List N) → MeanSame op xs ys → EachPair (KeepsInputs op) xs ys → EachPair (KeepsInputs op) ys zs → EachPair (KeepsInputs op) xs zs
-KeepsInputs-twice op xs ys zs same = pairs-twice (KeepsInputs op) (KeepsInputs op) (KeepsInputs op) xs ys zs (length_of-MeanSame op xs ys same) (λ x y z p q A B s. q A B (p A B s))
-
-pub MeanSame-twice : {N : Type 0} (op : Ghosts N) (xs ys zs : List N) → MeanSame op xs ys → MeanSame op ys zs → MeanSame op xs zs
-MeanSame-twice {N} op xs ys zs s t =
-    let Takes : N → N → Type 0 = λ n m. (A B : Dataset) → op.Takes n A B ↔ op.Takes m A B in
-    record {
-      outputs = t.outputs ∙ s.outputs;
-      fits = t.fits ∙ s.fits;
-      takes = pairs-twice Takes Takes Takes xs ys zs (length_of-MeanSame op xs ys s) (λ x y z p q A B. ((λ k. (q A B).0 ((p A B).0 k)), (λ k. (p A B).1 ((q A B).1 k)))) s.takes t.takes;
-    }
+pub KeepsInputs-twice : {N : Type 0} (of : N → Standing) (xs ys zs : List N) → meanings of ys ≡ meanings of xs → EachPair (KeepsInputs of) xs ys → EachPair (KeepsInputs of) ys zs → EachPair (KeepsInputs of) xs zs
+KeepsInputs-twice of xs ys zs same = pairs-twice (KeepsInputs of) (KeepsInputs of) (KeepsInputs of) xs ys zs (same_count of xs ys same) (λ x y z p q A B s. q A B (p A B s))

@@ -2,40 +2,39 @@
 use Rattle.std.proofs.Common.{◌≡◌, ℕ, false, List, subst, sym}
 use Rattle.std.specs.Prelude.{Option, Result, Ok, Err, IfErr}
 use Rattle.datasets.specs.Dataset.{Dataset}
-use Rattle.weighted_set.specs.Standing.{MayBecome}
-use Rattle.weighted_set.specs.declared.operator.Operator.{Ghosts}
+use Rattle.weighted_set.specs.Standing.{MayBecome, Standing}
 use Rattle.weighted_set.specs.declared.part_op.OpFault.{OpFault}
 use Rattle.weighted_set.specs.declared.part_op.OpFault.TheVariants.{Range}
 use Rattle.weighted_set.specs.declared.weighted.Change.{Change}
 use Rattle.dataflow.specs.declared.wire.Wire.{Wire}
 use Rattle.dataflow.specs.declared.wire.Wire.TheVariants.{Of}
 use Rattle.dataflow.specs.Changes.{changes_at, right_changes}
-use Rattle.dataflow.specs.Evaluation.{dataset_at, right_dataset, step_fits}
+use Rattle.dataflow.specs.Evaluation.{dataset_at, right_dataset, step_passes}
 use Rattle.dataflow.specs.Standing.{MayStep}
 
-module _ {N : Type 0} (op : Ghosts N) (n : N) (wires : List Wire) (sources lists : List (List Change)) (wire : Wire)
+module _ (of : Standing) (wires : List Wire) (sources lists : List (List Change)) (wire : Wire)
     (left : ℕ) (right : Option ℕ) (is : wire ≡ Of left right)
     (left_list right_list : List Change) (left_is : left_list ≡ changes_at wires sources lists left) (right_is : right_list ≡ right_changes wires sources lists right) where
   abbrev May : List Dataset → List Dataset → Type 0
-  May As Bs = MayStep op n wires sources lists As Bs wire
+  May As Bs = MayStep of wires sources lists As Bs wire
 
   abbrev MayOf : Dataset → Dataset → Dataset → Dataset → Type 0
-  MayOf A B C D = MayBecome (op.StandsFor n) (op.Takes n) (op.fits n) left_list right_list A B C D
+  MayOf A B C D = MayBecome of left_list right_list A B C D
 
   inputs_of : (As Bs : List Dataset) → May As Bs → MayOf (dataset_at As left) (right_dataset As right) (dataset_at Bs left) (right_dataset Bs right)
   inputs_of As Bs m =
       let A = dataset_at As left in let B = right_dataset As right in let C = dataset_at Bs left in let D = right_dataset Bs right in
-      subst (λ list. MayBecome (op.StandsFor n) (op.Takes n) (op.fits n) list right_list A B C D) (sym left_is)
-      (subst (λ list. MayBecome (op.StandsFor n) (op.Takes n) (op.fits n) (changes_at wires sources lists left) list A B C D) (sym right_is)
-      (subst (MayStep op n wires sources lists As Bs) is m))
+      subst (λ list. MayBecome of list right_list A B C D) (sym left_is)
+      (subst (λ list. MayBecome of (changes_at wires sources lists left) list A B C D) (sym right_is)
+      (subst (MayStep of wires sources lists As Bs) is m))
 
   pub some_inputs : ((As : List Dataset) × ((Bs : List Dataset) × May As Bs)) → (A : Dataset) × ((B : Dataset) × ((C : Dataset) × ((D : Dataset) × MayOf A B C D)))
   some_inputs s =
       let As = s.0 in let Bs = s.1.0 in
       (dataset_at As left, (right_dataset As right, (dataset_at Bs left, (right_dataset Bs right, inputs_of As Bs s.1.1))))
 
-  pub range_of : {X : Type 0} (result : Result X OpFault) → IfErr result (λ e. e ≡ Range → (A B C D : Dataset) → MayOf A B C D → op.fits n C D ≡ false)
-      → IfErr result (λ e. e ≡ Range → (As Bs : List Dataset) → May As Bs → step_fits (op.fits n) wire Bs ≡ false)
+  pub range_of : {X : Type 0} (result : Result X OpFault) → IfErr result (λ e. e ≡ Range → (A B C D : Dataset) → MayOf A B C D → of.meaning.fits C D ≡ false)
+      → IfErr result (λ e. e ≡ Range → (As Bs : List Dataset) → May As Bs → step_passes of.meaning.fits wire Bs ≡ false)
   range_of (Ok x) h = tt
   range_of (Err e) h = λ q As Bs m.
-      subst (λ w. step_fits (op.fits n) w Bs ≡ false) (sym is) (h q (dataset_at As left) (right_dataset As right) (dataset_at Bs left) (right_dataset Bs right) (inputs_of As Bs m))
+      subst (λ w. step_passes of.meaning.fits w Bs ≡ false) (sym is) (h q (dataset_at As left) (right_dataset As right) (dataset_at Bs left) (right_dataset Bs right) (inputs_of As Bs m))

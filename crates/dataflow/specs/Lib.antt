@@ -2,5 +2,7 @@ pub mod Wiring
 pub mod Evaluation
 pub mod Changes
 pub mod Standing
-pub mod Graphs
+pub mod Outputs
+pub mod Faults
 pub mod Laws
+pub mod Wired

@@ -1,15 +1,13 @@
 -- What the steps of a plan stand for, and which changes of their sources they can be asked for.
-use Rattle.std.specs.Prelude.{◌≡◌, ◌↔◌, ℕ, ◌<◌, true, false, List, map, Some, slice_get}
+use Rattle.std.specs.Prelude.{◌≡◌, ℕ, ◌<◌, true, false, List, map, Some, slice_get}
 use Rattle.datasets.specs.Dataset.{Dataset}
-use Rattle.weighted_set.specs.Changes.{IsChangeList}
 use Rattle.weighted_set.specs.Held.{AllInRange}
-use Rattle.weighted_set.specs.Standing.{MayBecome}
-use Rattle.weighted_set.specs.declared.operator.Operator.{Ghosts}
+use Rattle.weighted_set.specs.Standing.{HasAnswered, MayBecome, Meaning, Standing}
 use Rattle.weighted_set.specs.declared.weighted.Change.{Change}
 use Rattle.dataflow.specs.declared.wire.Wire.{Wire}
 use Rattle.dataflow.specs.declared.wire.Wire.TheVariants.{Source, Of}
-use Rattle.dataflow.specs.Changes.{AreFamilyChanges, changes_at, right_changes}
-use Rattle.dataflow.specs.Evaluation.{Family, dataset_at, evals, fits_at, right_dataset}
+use Rattle.dataflow.specs.Changes.{AreFamilyChanges, AreStepChanges, changes_at, right_changes}
+use Rattle.dataflow.specs.Evaluation.{Family, dataset_at, evals, fits_at, right_dataset, step_passes, takes_at}
 use Rattle.dataflow.specs.Wiring.{wire_at}
 
 -- ---- facts of each step
@@ -27,62 +25,94 @@ EachStep {N} P nodes wires As = (i : ℕ) (n : N) → slice_get nodes i ≡ Some
 abbrev pub EachPair : {N : Type 0} → (N → N → Type 0) → List N → List N → Type 0
 EachPair {N} P old new = (i : ℕ) (n m : N) → slice_get old i ≡ Some n → slice_get new i ≡ Some m → P n m
 
+-- what the operators mean
+abbrev pub meanings : {N : Type 0} → (N → Standing) → List N → List Meaning
+meanings of nodes = map (λ n. (of n).meaning) nodes
+
 -- nothing is pending
-abbrev pub AreIdle : {N : Type 0} → Ghosts N → List N → Type 0
-AreIdle {N} op nodes = (i : ℕ) (n : N) → slice_get nodes i ≡ Some n → op.is_pending n ≡ false
+abbrev pub AreIdle : {N : Type 0} → (N → Standing) → List N → Type 0
+AreIdle {N} of nodes = (i : ℕ) (n : N) → slice_get nodes i ≡ Some n → (of n).is_pending ≡ false
 
 -- each operator stands for what the sources F give it
-abbrev pub StepsStand : {N : Type 0} → Ghosts N → List N → List Wire → Family → Type 0
-StepsStand op nodes wires F = EachStep op.StandsFor nodes wires (evals op nodes wires F)
+abbrev pub StepsStand : {N : Type 0} → (N → Standing) → List N → List Wire → Family → Type 0
+StepsStand of nodes wires F = EachStep (λ n. (of n).StandsFor) nodes wires (evals (meanings of nodes) wires F)
 
 -- what is pending in each operator is what the sources F give it
-abbrev pub StepsPend : {N : Type 0} → Ghosts N → List N → List Wire → Family → Type 0
-StepsPend op nodes wires F = EachStep (λ n A B. (op.is_pending n ≡ true) × op.StandsPending n A B) nodes wires (evals op nodes wires F)
+abbrev pub StepsPend : {N : Type 0} → (N → Standing) → List N → List Wire → Family → Type 0
+StepsPend of nodes wires F = EachStep (λ n. (of n).StandsPending) nodes wires (evals (meanings of nodes) wires F)
 
 -- ---- what a call keeps
 
 -- what one operator stands for, another stands for
-abbrev pub KeepsInputs : {N : Type 0} → Ghosts N → N → N → Type 0
-KeepsInputs op n m = (A B : Dataset) → op.StandsFor n A B → op.StandsFor m A B
+abbrev pub KeepsInputs : {N : Type 0} → (N → Standing) → N → N → Type 0
+KeepsInputs of n m = (A B : Dataset) → (of n).StandsFor A B → (of m).StandsFor A B
 
 -- what is pending in one operator, or what it stands for if nothing is, another stands for
-abbrev pub CommitsInputs : {N : Type 0} → Ghosts N → N → N → Type 0
-CommitsInputs op n m =
-    (op.is_pending n ≡ true → (A B : Dataset) → op.StandsPending n A B → op.StandsFor m A B)
-    × (op.is_pending n ≡ false → (A B : Dataset) → op.StandsFor n A B → op.StandsFor m A B)
-
--- the operators have the same outputs and the same range, and take the same inputs
-pub record MeanSame {N : Type 0} (op : Ghosts N) (old new : List N) : Type 0 where
-  pub outputs : map op.output new ≡ map op.output old
-  pub fits : map op.fits new ≡ map op.fits old
-  pub takes : EachPair (λ n m. (A B : Dataset) → op.Takes n A B ↔ op.Takes m A B) old new
+abbrev pub CommitsInputs : {N : Type 0} → (N → Standing) → N → N → Type 0
+CommitsInputs of n m =
+    ((A B : Dataset) → (of n).StandsPending A B → (of m).StandsFor A B)
+    × ((of n).is_pending ≡ false → (A B : Dataset) → (of n).StandsFor A B → (of m).StandsFor A B)
 
 -- ---- changes of the sources
 
 -- the sources F may become G by these changes
-pub record MayChange {N : Type 0} (op : Ghosts N) (nodes : List N) (wires : List Wire) (sources : List (List Change)) (F G : Family) : Type 0 where
+pub record MayChange (ms : List Meaning) (wires : List Wire) (sources : List (List Change)) (F G : Family) : Type 0 where
   pub changes : AreFamilyChanges sources F G
   pub in_range : (s : ℕ) → AllInRange (dataset_at F s)
-  pub fits_before : (i : ℕ) → fits_at op nodes wires F i ≡ true
-  pub takes_before : EachStep op.Takes nodes wires (evals op nodes wires F)
-  pub takes_after : EachStep op.Takes nodes wires (evals op nodes wires G)
+  pub fits_before : (i : ℕ) → fits_at ms wires F i ≡ true
+  pub takes_before : (i : ℕ) → takes_at ms wires F i ≡ true
+  pub takes_after : (i : ℕ) → takes_at ms wires G i ≡ true
 
 -- the step i is the first that doesn't fit its inputs
-pub record IsMisfit {N : Type 0} (op : Ghosts N) (nodes : List N) (wires : List Wire) (F : Family) (i : ℕ) : Type 0 where
-  pub here : fits_at op nodes wires F i ≡ false
-  pub earlier : (j : ℕ) → j < i → fits_at op nodes wires F j ≡ true
+pub record IsMisfit (ms : List Meaning) (wires : List Wire) (F : Family) (i : ℕ) : Type 0 where
+  pub here : fits_at ms wires F i ≡ false
+  pub earlier : (j : ℕ) → j < i → fits_at ms wires F j ≡ true
 
 -- ---- one step
 
 -- the operator of a step can be asked for these changes, where the steps' datasets As become Bs
-abbrev pub MayStep : {N : Type 0} → Ghosts N → N → List Wire → List (List Change) → List (List Change) → List Dataset → List Dataset → Wire → Type 0
-MayStep op n wires sources lists As Bs (Source s) = Unit {0}
-MayStep op n wires sources lists As Bs (Of left right) =
-    MayBecome (op.StandsFor n) (op.Takes n) (op.fits n) (changes_at wires sources lists left) (right_changes wires sources lists right)
-    (dataset_at As left) (right_dataset As right) (dataset_at Bs left) (right_dataset Bs right)
+abbrev pub MayStep : Standing → List Wire → List (List Change) → List (List Change) → List Dataset → List Dataset → Wire → Type 0
+MayStep of wires sources lists As Bs (Source s) = Unit {0}
+MayStep of wires sources lists As Bs (Of left right) =
+    MayBecome of (changes_at wires sources lists left) (right_changes wires sources lists right) (dataset_at As left) (right_dataset As right) (dataset_at Bs left) (right_dataset Bs right)
 
--- the list has the changes of the step's output, if it has inputs
-abbrev pub ListsOutput : (Dataset → Dataset → Dataset) → List Change → List Dataset → List Dataset → Wire → Type 0
-ListsOutput output list As Bs (Source s) = Unit {0}
-ListsOutput output list As Bs (Of left right) =
-    IsChangeList list (output (dataset_at As left) (right_dataset As right)) (output (dataset_at Bs left) (right_dataset Bs right))
+-- the operator of a step can be asked for some datasets of the steps
+abbrev pub StepHasInputs : Standing → List Wire → List (List Change) → List (List Change) → Wire → Type 0
+StepHasInputs of wires sources lists wire = (As : List Dataset) × ((Bs : List Dataset) × MayStep of wires sources lists As Bs wire)
+
+-- the operator of a step has answered, if it has inputs
+abbrev pub HasStepped : Standing → Standing → List Change → List Dataset → List Dataset → Wire → Type 0
+HasStepped old new list As Bs (Source s) = Unit {0}
+HasStepped old new list As Bs (Of left right) = HasAnswered old new list (dataset_at As left) (right_dataset As right) (dataset_at Bs left) (right_dataset Bs right)
+
+-- whatever the changes make of the steps' datasets, the operator of a step has answered
+abbrev pub StepAnswers : Standing → Standing → List Change → List Wire → List (List Change) → List (List Change) → Wire → Type 0
+StepAnswers old new list wires sources lists wire = (As Bs : List Dataset) → MayStep old wires sources lists As Bs wire → HasStepped old new list As Bs wire
+
+-- whatever the changes make of the steps' datasets, they don't fit the operator of a step
+abbrev pub StepMisfits : Standing → List Wire → List (List Change) → List (List Change) → Wire → Type 0
+StepMisfits of wires sources lists wire =
+    (As Bs : List Dataset) → MayStep of wires sources lists As Bs wire → step_passes of.meaning.fits wire Bs ≡ false
+
+-- ---- all steps
+
+-- each step lists its changes, fits its inputs, and what is pending in it is what the sources G give it
+pub record HaveStepped {N : Type 0} (of : N → Standing) (old new : List N) (wires : List Wire) (sources lists : List (List Change)) (F G : Family) : Type 0 where
+  pub changes : AreStepChanges wires sources lists (evals (meanings of old) wires F) (evals (meanings of old) wires G)
+  pub fits : (i : ℕ) → fits_at (meanings of old) wires G i ≡ true
+  pub pending : StepsPend of new wires G
+
+-- the operators stand for some sources that these changes can be made to
+abbrev pub HaveInputs : {N : Type 0} → (N → Standing) → List N → List Wire → List (List Change) → Type 0
+HaveInputs of nodes wires sources =
+    (F : Family) × ((G : Family) × (StepsStand of nodes wires F × MayChange (meanings of nodes) wires sources F G))
+
+-- whatever the changes make of the sources, each step has answered
+abbrev pub HaveAnswered : {N : Type 0} → (N → Standing) → List N → List N → List Wire → List (List Change) → List (List Change) → Type 0
+HaveAnswered of old new wires sources lists =
+    (F G : Family) → StepsStand of old wires F → MayChange (meanings of old) wires sources F G → HaveStepped of old new wires sources lists F G
+
+-- whatever the changes make of the sources, the step i is the first that doesn't fit
+abbrev pub Misfits : {N : Type 0} → (N → Standing) → List N → List Wire → List (List Change) → ℕ → Type 0
+Misfits of nodes wires sources i =
+    (F G : Family) → StepsStand of nodes wires F → MayChange (meanings of nodes) wires sources F G → IsMisfit (meanings of nodes) wires G i

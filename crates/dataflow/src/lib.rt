@@ -4,14 +4,16 @@
 //! prepared first in every step, and then committed or aborted.
 #![tactic(auto)]
 
-mod graph;
 mod laws;
 mod passes;
+mod rows;
 mod step;
 mod wire;
+mod wired;
 
-pub use graph::Graph;
 pub use laws::law_evals;
 pub use passes::{GraphFault, abort_all, commit_all, prepare_all};
+pub use rows::{put_rows, row_weight};
 pub use step::changes_at;
 pub use wire::Wire;
+pub use wired::{abort_wired, commit_wired, prepare_wired};

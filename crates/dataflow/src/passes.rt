@@ -1,11 +1,9 @@
 //! Changes, sent through all steps.
-ghost use Rattle.std.specs.Prelude.{◌++◌, ◌∷◌, ◌≡◌, ℕ, ◌<◌, IfErr, OnErr, OnOk, [], length, map, true};
-ghost use Rattle.dataflow.specs.Changes.{AreStepChanges};
-ghost use Rattle.dataflow.specs.Evaluation.{Family, evals, fits_at};
-ghost use Rattle.dataflow.specs.Standing.{AreIdle, CommitsInputs, EachPair, IsMisfit, KeepsInputs, MayChange, MeanSame, StepsPend, StepsStand};
+ghost use Rattle.std.specs.Prelude.{◌++◌, ◌∷◌, ◌≡◌, ℕ, ◌<◌, IfErr, OnErr, OnOk, [], length, map};
+ghost use Rattle.dataflow.specs.Faults.{fault_at};
+ghost use Rattle.dataflow.specs.Standing.{AreIdle, CommitsInputs, EachPair, HaveAnswered, HaveInputs, KeepsInputs, Misfits, meanings};
 ghost use Rattle.dataflow.specs.Wiring.{AreWired};
 ghost use Rattle.dataflow.specs.declared.passes.GraphFault.TheVariants as fault;
-ghost use Rattle.weighted_set.specs.declared.part_op.OpFault.TheVariants as op_fault;
 
 use crate::step::prepare_step;
 use crate::wire::Wire;
@@ -33,7 +31,7 @@ impl From<Memory> for GraphFault {
 
 /// Makes the changes of the sources, a list for each, pending in all steps, and lists the changes of each step's
 /// output; the list of a source stays empty, and `changes_at` tells its changes. `lists` is emptied first. After a
-/// refusal nothing is pending.
+/// refusal nothing is pending, and no list is left.
 pub fn prepare_all<N: Operator, L: Ledger>(
     alloc: Global,
     nodes: &mut [N],
@@ -44,22 +42,21 @@ pub fn prepare_all<N: Operator, L: Ledger>(
 ) -> Result<(), GraphFault>
     requires same_length { length nodes.old ≡ length wires.now }
     requires wired { AreWired wires.now (length sources.now) }
-    requires idle { AreIdle N.Operator nodes.old }
-    requires inputs { (F : Family) × ((G : Family) × (StepsStand N.Operator nodes.old wires.now F × MayChange N.Operator nodes.old wires.now (map (λ s. s.now) sources.now) F G)) }
+    requires idle { AreIdle N.standing nodes.old }
+    requires inputs { HaveInputs N.standing nodes.old wires.now (map (λ s. s.now) sources.now) }
     ensures length { OnOk result (length lists.new.items ≡ length wires.now) }
-    ensures changes { OnOk result ((F G : Family) → StepsStand N.Operator nodes.old wires.now F → MayChange N.Operator nodes.old wires.now (map (λ s. s.now) sources.now) F G → AreStepChanges wires.now (map (λ s. s.now) sources.now) (map (λ l. l.items) lists.new.items) (evals N.Operator nodes.old wires.now F) (evals N.Operator nodes.old wires.now G)) }
-    ensures pending { OnOk result ((F G : Family) → StepsStand N.Operator nodes.old wires.now F → MayChange N.Operator nodes.old wires.now (map (λ s. s.now) sources.now) F G → StepsPend N.Operator nodes.new wires.now G) }
-    ensures fits { OnOk result ((F G : Family) → StepsStand N.Operator nodes.old wires.now F → MayChange N.Operator nodes.old wires.now (map (λ s. s.now) sources.now) F G → (i : ℕ) → fits_at N.Operator nodes.old wires.now G i ≡ true) }
-    ensures range { IfErr result (λ e. (i : ℕ) → e ≡ fault.Range i → (F G : Family) → StepsStand N.Operator nodes.old wires.now F → MayChange N.Operator nodes.old wires.now (map (λ s. s.now) sources.now) F G → IsMisfit N.Operator nodes.old wires.now G i) }
-    ensures committed { EachPair (KeepsInputs N.Operator) nodes.old nodes.new }
-    ensures same { MeanSame N.Operator nodes.old nodes.new }
-    ensures err { OnErr result (AreIdle N.Operator nodes.new) }
+    ensures ok { let given = map (λ s. s.now) sources.now in OnOk result (HaveAnswered N.standing nodes.old nodes.new wires.now given (map (λ l. l.items) lists.new.items)) }
+    ensures range { let given = map (λ s. s.now) sources.now in IfErr result (λ e. (i : ℕ) → e ≡ fault.Range i → Misfits N.standing nodes.old wires.now given i) }
+    ensures committed { EachPair (KeepsInputs N.standing) nodes.old nodes.new }
+    ensures same { meanings N.standing nodes.new ≡ meanings N.standing nodes.old }
+    ensures err { OnErr result (AreIdle N.standing nodes.new × (lists.new.items ≡ [])) }
 {
     lists.clear();
     match prepare_each(alloc, nodes, wires, sources, lists, steps) {
         Ok(()) => Ok(()),
         Err(fault) => {
             abort_all(nodes);
+            lists.clear();
             Err(fault)
         }
     }
@@ -77,15 +74,13 @@ fn prepare_each<N: Operator, L: Ledger>(
     requires empty { lists.old.items ≡ [] }
     requires same_length { length nodes.old ≡ length wires.now }
     requires wired { AreWired wires.now (length sources.now) }
-    requires idle { AreIdle N.Operator nodes.old }
-    requires inputs { (F : Family) × ((G : Family) × (StepsStand N.Operator nodes.old wires.now F × MayChange N.Operator nodes.old wires.now (map (λ s. s.now) sources.now) F G)) }
+    requires idle { AreIdle N.standing nodes.old }
+    requires inputs { HaveInputs N.standing nodes.old wires.now (map (λ s. s.now) sources.now) }
     ensures length { OnOk result (length lists.new.items ≡ length wires.now) }
-    ensures changes { OnOk result ((F G : Family) → StepsStand N.Operator nodes.old wires.now F → MayChange N.Operator nodes.old wires.now (map (λ s. s.now) sources.now) F G → AreStepChanges wires.now (map (λ s. s.now) sources.now) (map (λ l. l.items) lists.new.items) (evals N.Operator nodes.old wires.now F) (evals N.Operator nodes.old wires.now G)) }
-    ensures pending { OnOk result ((F G : Family) → StepsStand N.Operator nodes.old wires.now F → MayChange N.Operator nodes.old wires.now (map (λ s. s.now) sources.now) F G → StepsPend N.Operator nodes.new wires.now G) }
-    ensures fits { OnOk result ((F G : Family) → StepsStand N.Operator nodes.old wires.now F → MayChange N.Operator nodes.old wires.now (map (λ s. s.now) sources.now) F G → (i : ℕ) → fits_at N.Operator nodes.old wires.now G i ≡ true) }
-    ensures range { IfErr result (λ e. (i : ℕ) → e ≡ fault.Range i → (F G : Family) → StepsStand N.Operator nodes.old wires.now F → MayChange N.Operator nodes.old wires.now (map (λ s. s.now) sources.now) F G → IsMisfit N.Operator nodes.old wires.now G i) }
-    ensures committed { EachPair (KeepsInputs N.Operator) nodes.old nodes.new }
-    ensures same { MeanSame N.Operator nodes.old nodes.new }
+    ensures ok { let given = map (λ s. s.now) sources.now in OnOk result (HaveAnswered N.standing nodes.old nodes.new wires.now given (map (λ l. l.items) lists.new.items)) }
+    ensures range { let given = map (λ s. s.now) sources.now in IfErr result (λ e. (i : ℕ) → e ≡ fault.Range i → Misfits N.standing nodes.old wires.now given i) }
+    ensures committed { EachPair (KeepsInputs N.standing) nodes.old nodes.new }
+    ensures same { meanings N.standing nodes.new ≡ meanings N.standing nodes.old }
 {
     for i in 0..nodes.len() {
         let mut list = Vec::new(alloc);
@@ -105,8 +100,9 @@ fn prepare_each<N: Operator, L: Ledger>(
     Ok(())
 }
 
+// The fault of a graph, the operator of one of whose steps refused.
 fn at_step(refused: OpFault, step: usize) -> GraphFault
-    ensures { (i : ℕ) → result ≡ fault.Range i → (refused ≡ op_fault.Range) × (step ≡ i) }
+    ensures { result ≡ fault_at step refused }
 {
     match refused {
         OpFault::Range => GraphFault::Range { step },
@@ -123,9 +119,9 @@ fn push_list(lists: &mut Vec<Vec<Change>>, list: Vec<Change>) -> Result<(), Memo
 
 /// Drops what is pending in all steps.
 pub fn abort_all<N: Operator>(nodes: &mut [N])
-    ensures idle { AreIdle N.Operator nodes.new }
-    ensures committed { EachPair (KeepsInputs N.Operator) nodes.old nodes.new }
-    ensures same { MeanSame N.Operator nodes.old nodes.new }
+    ensures idle { AreIdle N.standing nodes.new }
+    ensures committed { EachPair (KeepsInputs N.standing) nodes.old nodes.new }
+    ensures same { meanings N.standing nodes.new ≡ meanings N.standing nodes.old }
 {
     for i in 0..nodes.len() {
         nodes[i].abort();
@@ -134,9 +130,9 @@ pub fn abort_all<N: Operator>(nodes: &mut [N])
 
 /// Makes what is pending the committed state of all steps.
 pub fn commit_all<N: Operator>(nodes: &mut [N])
-    ensures idle { AreIdle N.Operator nodes.new }
-    ensures committed { EachPair (CommitsInputs N.Operator) nodes.old nodes.new }
-    ensures same { MeanSame N.Operator nodes.old nodes.new }
+    ensures idle { AreIdle N.standing nodes.new }
+    ensures committed { EachPair (CommitsInputs N.standing) nodes.old nodes.new }
+    ensures same { meanings N.standing nodes.new ≡ meanings N.standing nodes.old }
 {
     for i in 0..nodes.len() {
         nodes[i].commit();

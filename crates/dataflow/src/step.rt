@@ -1,9 +1,7 @@
 //! One step of a plan.
-ghost use Rattle.std.specs.Prelude.{◌≡◌, ◌<◌, ◌↔◌, IfErr, List, OnOk, false, length, map, true};
-ghost use Rattle.datasets.specs.Dataset.{Dataset};
+ghost use Rattle.std.specs.Prelude.{◌≡◌, ◌<◌, IfErr, OnOk, false, length, map};
 ghost use Rattle.dataflow.specs.Changes.{changes_at as changes_of_step, right_changes};
-ghost use Rattle.dataflow.specs.Evaluation.{step_fits};
-ghost use Rattle.dataflow.specs.Standing.{ListsOutput, MayStep, OfInputs};
+ghost use Rattle.dataflow.specs.Standing.{KeepsInputs, StepAnswers, StepHasInputs, StepMisfits};
 ghost use Rattle.dataflow.specs.Wiring.{AreWired, RightBefore, wire_at};
 ghost use Rattle.weighted_set.specs.declared.part_op.OpFault.TheVariants as fault;
 
@@ -62,16 +60,12 @@ pub fn prepare_step<N: Operator, L: Ledger>(
     requires wired { AreWired wires.now (length sources.now) }
     requires within { at < length wires.now }
     requires listed { length lists.now ≡ at }
-    requires idle { N.is_pending node.old ≡ false }
-    requires inputs { (As : List Dataset) × ((Bs : List Dataset) × MayStep N.Operator node.old wires.now (map (λ s. s.now) sources.now) (map (λ l. l.items) lists.now) As Bs (wire_at wires.now at)) }
-    ensures output { OnOk result ((As Bs : List Dataset) → MayStep N.Operator node.old wires.now (map (λ s. s.now) sources.now) (map (λ l. l.items) lists.now) As Bs (wire_at wires.now at) → ListsOutput (N.output node.old) out.new.items As Bs (wire_at wires.now at)) }
-    ensures pending { OnOk result ((As Bs : List Dataset) → MayStep N.Operator node.old wires.now (map (λ s. s.now) sources.now) (map (λ l. l.items) lists.now) As Bs (wire_at wires.now at) → OfInputs (λ A B. (N.is_pending node.new ≡ true) × N.StandsPending node.new A B) (wire_at wires.now at) Bs) }
-    ensures fits { OnOk result ((As Bs : List Dataset) → MayStep N.Operator node.old wires.now (map (λ s. s.now) sources.now) (map (λ l. l.items) lists.now) As Bs (wire_at wires.now at) → step_fits (N.fits node.old) (wire_at wires.now at) Bs ≡ true) }
-    ensures range { IfErr result (λ e. e ≡ fault.Range → (As Bs : List Dataset) → MayStep N.Operator node.old wires.now (map (λ s. s.now) sources.now) (map (λ l. l.items) lists.now) As Bs (wire_at wires.now at) → step_fits (N.fits node.old) (wire_at wires.now at) Bs ≡ false) }
-    ensures committed { (A B : Dataset) → N.StandsFor node.old A B → N.StandsFor node.new A B }
-    ensures same_output { N.output node.new ≡ N.output node.old }
-    ensures same_fits { N.fits node.new ≡ N.fits node.old }
-    ensures same_takes { (A B : Dataset) → N.Takes node.old A B ↔ N.Takes node.new A B }
+    requires idle { (N.standing node.old).is_pending ≡ false }
+    requires inputs { let given = map (λ s. s.now) sources.now in StepHasInputs (N.standing node.old) wires.now given (map (λ l. l.items) lists.now) (wire_at wires.now at) }
+    ensures ok { let given = map (λ s. s.now) sources.now in let made = map (λ l. l.items) lists.now in OnOk result (StepAnswers (N.standing node.old) (N.standing node.new) out.new.items wires.now given made (wire_at wires.now at)) }
+    ensures range { let given = map (λ s. s.now) sources.now in let made = map (λ l. l.items) lists.now in IfErr result (λ e. e ≡ fault.Range → StepMisfits (N.standing node.old) wires.now given made (wire_at wires.now at)) }
+    ensures committed { KeepsInputs N.standing node.old node.new }
+    ensures same { (N.standing node.new).meaning ≡ (N.standing node.old).meaning }
 {
     match wires[at] {
         Wire::Source(_) => Ok(()),

@@ -1,8 +1,7 @@
-pub mod Products
-pub mod Standing
-pub mod Staging
-pub mod WholeInputs
+pub mod Sources
+pub mod NodesBy
+pub mod Nodes
 pub mod Steps
+pub mod Plans
 pub mod Graphs
 pub mod Fresh
-pub mod PlanGraphs

@@ -1,21 +1,19 @@
-//! Operators and plans that are kept up to date as their inputs change.
+//! Plans that are kept up to date as their sources change.
 //!
-//! Two engines keep an operator up to date: one works the whole output out anew, the other only at the
-//! keys that change. A flow graph keeps a plan up to date with a node for each step.
+//! A graph keeps a node for each step of a plan, and the output of the last. Changes of a source are prepared in
+//! every step, and then committed or aborted.
 #![tactic(auto)]
 
 mod build;
 mod flow;
-mod inputs;
-mod keyed;
+mod fresh;
 mod node;
-mod outputs;
+mod plans;
 mod rows;
-mod whole;
+mod wires;
 
 pub use dataflow::GraphFault;
-pub use flow::{FlowGraph, FlowGraphOf};
-pub use keyed::Keyed;
+pub use engines::{Keyed, Whole};
+pub use flow::FlowGraph;
 pub use node::{Node, NodeOf};
 pub use std::alloc::AllocError as Memory;
-pub use whole::Whole;

@@ -1,38 +1,37 @@
 //! The operators of steps.
-ghost use Rattle.std.specs.Prelude.{◌≡◌, [], Bool, false, true};
-ghost use Rattle.datasets.specs.Dataset.{Dataset};
-ghost use Rattle.weighted_set.specs.Held.{AllInRange};
-ghost use Rattle.flow_graph.specs.declared.node.NodeOf.TheVariants.{Source, Filter, Select};
+ghost use Rattle.flow_graph.specs.NodesBy.{node_by, node_keeps_range};
 
-use crate::keyed::Keyed;
-use op_linear::{FilterOp, SelectOp};
+use engines::Keyed;
+use op_linear::{FilterOp, ManyOp, SelectOp};
+use op_setwise::SetOp;
+use op_shave::ShaveOp;
 use std::sync::ledger::Ledger;
 use steps::Steps;
 use weighted_set::{Change, OpFault, Operator};
 
-/// What a step keeps, where F keeps a filter and S a select. A source keeps nothing, and is never prepared.
+/// What a step keeps. A source keeps nothing, and is never prepared.
 #[derive(Drop)]
-pub enum NodeOf<F, S> {
+pub enum NodeOf<F, S, M, H, E> {
     Source,
     Filter(F),
     Select(S),
+    Many(M),
+    Shave(H),
+    Set(E),
 }
 
 /// What a step keeps.
-pub type Node = NodeOf<Keyed<FilterOp>, Keyed<SelectOp>>;
+pub type Node = NodeOf<
+    Keyed<FilterOp>,
+    Keyed<SelectOp>,
+    Keyed<ManyOp>,
+    Keyed<ShaveOp>,
+    Keyed<SetOp>,
+>;
 
-impl<F: Operator, S: Operator> Operator for NodeOf<F, S> {
-    ghost StandsFor = { λ it A B. elim it as (λ _. Type 0) [ Source ↦ Unit {0} | Filter k ↦ F.StandsFor k A B | Select k ↦ S.StandsFor k A B ] };
-
-    ghost StandsPending = { λ it A B. elim it as (λ _. Type 0) [ Source ↦ Unit {0} | Filter k ↦ F.StandsPending k A B | Select k ↦ S.StandsPending k A B ] };
-
-    ghost is_pending = { λ it. elim it as (λ _. Bool) [ Source ↦ false | Filter k ↦ F.is_pending k | Select k ↦ S.is_pending k ] };
-
-    ghost Takes = { λ it A B. elim it as (λ _. Type 0) [ Source ↦ Unit {0} | Filter k ↦ F.Takes k A B | Select k ↦ S.Takes k A B ] };
-
-    ghost fits = { λ it A B. elim it as (λ _. Bool) [ Source ↦ true | Filter k ↦ F.fits k A B | Select k ↦ S.fits k A B ] };
-
-    ghost output = { λ it A B. elim it as (λ _. Dataset) [ Source ↦ A | Filter k ↦ F.output k A B | Select k ↦ S.output k A B ] };
+impl<F: Operator, S: Operator, M: Operator, H: Operator, E: Operator> Operator
+    for NodeOf<F, S, M, H, E> {
+    ghost standing = { node_by F.standing S.standing M.standing H.standing E.standing };
 
     fn prepare<L: Ledger>(
         &mut self,
@@ -42,12 +41,12 @@ impl<F: Operator, S: Operator> Operator for NodeOf<F, S> {
         steps: &mut Steps<L>,
     ) -> Result<(), OpFault> {
         match self {
-            NodeOf::Source => {
-                out.clear();
-                Err(OpFault::Memory)
-            }
+            NodeOf::Source => unreachable!(),
             NodeOf::Filter(keyed) => keyed.prepare(left, right, out, steps),
             NodeOf::Select(keyed) => keyed.prepare(left, right, out, steps),
+            NodeOf::Many(keyed) => keyed.prepare(left, right, out, steps),
+            NodeOf::Shave(keyed) => keyed.prepare(left, right, out, steps),
+            NodeOf::Set(keyed) => keyed.prepare(left, right, out, steps),
         }
     }
 
@@ -56,6 +55,9 @@ impl<F: Operator, S: Operator> Operator for NodeOf<F, S> {
             NodeOf::Source => {}
             NodeOf::Filter(keyed) => keyed.commit(),
             NodeOf::Select(keyed) => keyed.commit(),
+            NodeOf::Many(keyed) => keyed.commit(),
+            NodeOf::Shave(keyed) => keyed.commit(),
+            NodeOf::Set(keyed) => keyed.commit(),
         }
     }
 
@@ -64,8 +66,11 @@ impl<F: Operator, S: Operator> Operator for NodeOf<F, S> {
             NodeOf::Source => {}
             NodeOf::Filter(keyed) => keyed.abort(),
             NodeOf::Select(keyed) => keyed.abort(),
+            NodeOf::Many(keyed) => keyed.abort(),
+            NodeOf::Shave(keyed) => keyed.abort(),
+            NodeOf::Set(keyed) => keyed.abort(),
         }
     }
 
-    ghost output_in_range = { λ it A B a b. elim it as (λ n. elim n as (λ _. Bool) [ Source ↦ true | Filter k ↦ F.fits k A B | Select k ↦ S.fits k A B ] ≡ true → AllInRange (elim n as (λ _. Dataset) [ Source ↦ A | Filter k ↦ F.output k A B | Select k ↦ S.output k A B ])) [ Source ↦ λ fits. a | Filter k ↦ F.output_in_range k A B a b | Select k ↦ S.output_in_range k A B a b ] };
+    ghost in_range = { node_keeps_range F.standing S.standing M.standing H.standing E.standing F.in_range S.in_range M.in_range H.in_range E.in_range };
 }

@@ -9,9 +9,9 @@ ghost use Rattle.record_text.specs.KindLists.{kinds_of};
 ghost use Rattle.record_text.specs.declared.kinds.Kind.TheVariants as kind;
 ghost use Rattle.op_linear.specs.Filter.{filter_keys};
 ghost use Rattle.op_linear.specs.FilterLaws.{filter_fits_by_part, filter_takes_part, filter_together};
-ghost use Rattle.op_parts.specs.Takes.{HasOnly, LeftHasColumns};
+ghost use Rattle.op_parts.specs.Takes.{HasOnly, LeftHasColumns, has_columns};
 ghost use Rattle.op_parts.proofs.Ranges.{AllInRange-tested};
-ghost use Rattle.op_parts.proofs.Takes.{takes_row};
+ghost use Rattle.op_parts.proofs.Takes.{columns_told, takes_row};
 
 use frac_core::Frac;
 use op_parts::{passes, push_row, push_rows, tick_each};
@@ -71,7 +71,7 @@ impl PartOp for FilterOp {
 
     ghost fits = { λ op A B. weights_in_range (filtered (passes op.test) A) };
 
-    ghost Takes = { λ op A B. HasColumns op.cols A };
+    ghost takes = { λ op A B. has_columns op.cols A };
 
     ghost TakesRow = { λ op side x. LeftHasColumns op.cols side x };
 
@@ -118,7 +118,7 @@ impl PartOp for FilterOp {
 
     ghost output_in_range = { λ op A B a b fits. AllInRange-tested (filtered (passes op.test) A) fits };
 
-    ghost takes_rows = { λ op A B x taken. takes_row op.cols A B x taken };
+    ghost takes_rows = { λ op A B x taken. takes_row op.cols A B x (columns_told op.cols A taken) };
 
     ghost takes_parts = { λ op A B k taken. filter_takes_part op k A };
 }

@@ -4,13 +4,12 @@ ghost use Rattle.std.specs.List.{list_all};
 ghost use Rattle.operators.specs.Operators.{spread};
 ghost use Rattle.plan_model.specs.Evaluation.{giving};
 ghost use Rattle.plan_model.specs.Limits.{is_item, max_item_weight};
-ghost use Rattle.plan_model.specs.Types.{HasColumns};
 ghost use Rattle.op_linear.specs.Many.{items_have_kinds, many_fits, many_keys};
 ghost use Rattle.op_linear.specs.ManyLaws.{many_fits_by_part, many_output_in_range, many_together};
 ghost use Rattle.op_linear.specs.SelectLaws.{summed_owned};
 ghost use Rattle.op_linear.specs.Summed.{summed, sums_in_range};
-ghost use Rattle.op_parts.specs.Takes.{LeftHasColumns};
-ghost use Rattle.op_parts.proofs.Takes.{takes_row};
+ghost use Rattle.op_parts.specs.Takes.{LeftHasColumns, has_columns};
+ghost use Rattle.op_parts.proofs.Takes.{columns_told, takes_row};
 
 use crate::shares::list_shares;
 use crate::sums::list_sum;
@@ -81,7 +80,7 @@ impl PartOp for ManyOp {
 
     ghost fits = { λ op A B. many_fits op A };
 
-    ghost Takes = { λ op A B. HasColumns op.cols A };
+    ghost takes = { λ op A B. has_columns op.cols A };
 
     ghost TakesRow = { λ op side x. LeftHasColumns op.cols side x };
 
@@ -122,7 +121,7 @@ impl PartOp for ManyOp {
 
     ghost output_in_range = { λ op A B a b fits. many_output_in_range op A fits };
 
-    ghost takes_rows = { λ op A B x taken. takes_row op.cols A B x taken };
+    ghost takes_rows = { λ op A B x taken. takes_row op.cols A B x (columns_told op.cols A taken) };
 
     ghost takes_parts = { λ op A B k taken. tt };
 }

@@ -3,13 +3,12 @@ ghost use Rattle.std.specs.Prelude.{◌≡◌, IfOk, IsTrue};
 ghost use Rattle.operators.specs.Operators.{selected};
 ghost use Rattle.plan_model.specs.Acceptance.{have_kinds};
 ghost use Rattle.plan_model.specs.Evaluation.{row_of};
-ghost use Rattle.plan_model.specs.Types.{HasColumns};
 ghost use Rattle.record_text.specs.KindLists.{kinds_of};
 ghost use Rattle.op_linear.specs.Select.{select_fits, select_keys};
 ghost use Rattle.op_linear.specs.SelectLaws.{select_fits_by_part, select_output_in_range, select_together, summed_owned};
 ghost use Rattle.op_linear.specs.Summed.{summed, sums_in_range};
-ghost use Rattle.op_parts.specs.Takes.{LeftHasColumns};
-ghost use Rattle.op_parts.proofs.Takes.{takes_row};
+ghost use Rattle.op_parts.specs.Takes.{LeftHasColumns, has_columns};
+ghost use Rattle.op_parts.proofs.Takes.{columns_told, takes_row};
 
 use crate::sums::list_sum;
 use frac_core::Frac;
@@ -70,7 +69,7 @@ impl PartOp for SelectOp {
 
     ghost fits = { λ op A B. select_fits op A };
 
-    ghost Takes = { λ op A B. HasColumns op.cols A };
+    ghost takes = { λ op A B. has_columns op.cols A };
 
     ghost TakesRow = { λ op side x. LeftHasColumns op.cols side x };
 
@@ -109,7 +108,7 @@ impl PartOp for SelectOp {
 
     ghost output_in_range = { λ op A B a b fits. select_output_in_range op A fits };
 
-    ghost takes_rows = { λ op A B x taken. takes_row op.cols A B x taken };
+    ghost takes_rows = { λ op A B x taken. takes_row op.cols A B x (columns_told op.cols A taken) };
 
     ghost takes_parts = { λ op A B k taken. tt };
 }

@@ -15,6 +15,7 @@ use Rattle.datasets.proofs.Rows.{other_if_not_is_zero, same_row-equal, same_row-
 use Rattle.operators.proofs.Tabulated.{at-pointwise}
 use Rattle.plan_model.specs.Evaluation.{set_weight}
 use Rattle.plan_model.specs.declared.step.SetKind.{SetKind}
+use Rattle.plan_model.specs.Types.{HasColumns}
 use Rattle.weighted_set.specs.Held.{AllInRange}
 use Rattle.weighted_set.specs.Parts.{FactoredInRange, part_of}
 use Rattle.weighted_set.specs.declared.part_op.Side.{Side}
@@ -26,7 +27,7 @@ use Rattle.op_parts.specs.Takes.{HasOnly}
 use Rattle.op_parts.proofs.Members.{at-weighed}
 use Rattle.op_parts.proofs.OneRows.{at-one_row, factor-in_part, weighed_row}
 use Rattle.op_parts.proofs.Ranges.{AllInRange-tested, weights_in_range-all}
-use Rattle.op_setwise.specs.Setwise.{BothHaveColumns, BothHaveOnly, SetParts, set_fits, set_keys, set_output}
+use Rattle.op_setwise.specs.Setwise.{BothHaveOnly, SetParts, set_fits, set_keys, set_output}
 
 -- two weights of 0 give 0
 set_weight-zero : (kind : SetKind) → set_weight kind zero_ratio zero_ratio ≡ zero_ratio
@@ -57,7 +58,7 @@ part_has_only side k A z h = sym (weighed_row z one_ratio k (factor-in_part (set
 pub set_takes_parts : (A B : Dataset) (k : Row) → BothHaveOnly k (part_of (set_keys Left) k A) (part_of (set_keys Right) k B)
 set_takes_parts A B k = (part_has_only Left k A, part_has_only Right k B)
 
-pub set_takes_rows : (cols : List Kind) (A B : Dataset) (x : Row) → BothHaveColumns cols A B → (at A x ≢ zero_ratio → kinds_of x ≡ cols) × (at B x ≢ zero_ratio → kinds_of x ≡ cols)
+pub set_takes_rows : (cols : List Kind) (A B : Dataset) (x : Row) → HasColumns cols A × HasColumns cols B → (at A x ≢ zero_ratio → kinds_of x ≡ cols) × (at B x ≢ zero_ratio → kinds_of x ≡ cols)
 set_takes_rows cols A B x h = (at-weighed (λ x. kinds_of x ≡ cols) A x h.0, at-weighed (λ x. kinds_of x ≡ cols) B x h.1)
 
 -- ---- the output at a key

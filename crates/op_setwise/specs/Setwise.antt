@@ -8,7 +8,6 @@ use Rattle.datasets.specs.Entries.{Row}
 use Rattle.operators.specs.InRange.{weights_in_range}
 use Rattle.operators.specs.Operators.{pointwise}
 use Rattle.plan_model.specs.Evaluation.{set_weight}
-use Rattle.plan_model.specs.Types.{HasColumns}
 use Rattle.plan_model.specs.declared.step.SetKind.{SetKind}
 use Rattle.weighted_set.specs.declared.part_op.Side.{Side}
 use Rattle.op_parts.specs.OneRow.{one_row}
@@ -30,10 +29,6 @@ set_output op A B = pointwise (set_weight op.kind) A B
 -- each output weight is in range
 abbrev pub set_fits : SetParts → Dataset → Dataset → Bool
 set_fits op A B = weights_in_range (set_output op A B)
-
--- both inputs have the columns
-abbrev pub BothHaveColumns : List Kind → Dataset → Dataset → Type 0
-BothHaveColumns cols A B = HasColumns cols A × HasColumns cols B
 
 -- no other row than k has a weight in either part
 abbrev pub BothHaveOnly : Row → Dataset → Dataset → Type 0

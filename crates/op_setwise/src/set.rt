@@ -4,9 +4,10 @@ ghost use Rattle.datasets.specs.Dataset.{at};
 ghost use Rattle.datasets.specs.Entries.{Row};
 ghost use Rattle.record_text.specs.KindLists.{kinds_of};
 ghost use Rattle.weighted_set.specs.Parts.{IsListed, listed};
-ghost use Rattle.op_parts.specs.Takes.{HasOnly};
+ghost use Rattle.op_parts.specs.Takes.{HasOnly, both_have_columns};
+ghost use Rattle.op_parts.proofs.Takes.{both_told};
 ghost use Rattle.op_parts.proofs.Ranges.{AllInRange-tested};
-ghost use Rattle.op_setwise.specs.Setwise.{BothHaveColumns, BothHaveOnly, checked_weight, set_fits, set_keys, set_output};
+ghost use Rattle.op_setwise.specs.Setwise.{BothHaveOnly, checked_weight, set_fits, set_keys, set_output};
 ghost use Rattle.op_setwise.specs.SetLaws.{set_fits_by_part, set_owned, set_takes_parts, set_takes_rows, set_together};
 
 use frac_core::Frac;
@@ -81,7 +82,7 @@ impl PartOp for SetOp {
 
     ghost fits = { λ op A B. set_fits op A B };
 
-    ghost Takes = { λ op A B. BothHaveColumns op.cols A B };
+    ghost takes = { λ op A B. both_have_columns op.cols A B };
 
     ghost TakesRow = { λ op side x. kinds_of x ≡ op.cols };
 
@@ -121,7 +122,7 @@ impl PartOp for SetOp {
 
     ghost output_in_range = { λ op A B a b fits. AllInRange-tested (set_output op A B) fits };
 
-    ghost takes_rows = { λ op A B x taken. set_takes_rows op.cols A B x taken };
+    ghost takes_rows = { λ op A B x taken. set_takes_rows op.cols A B x (both_told op.cols A B taken) };
 
     ghost takes_parts = { λ op A B k taken. set_takes_parts A B k };
 }

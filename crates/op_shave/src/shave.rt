@@ -6,8 +6,8 @@ ghost use Rattle.plan_model.specs.Evaluation.{pieces};
 ghost use Rattle.plan_model.specs.Limits.{is_run};
 ghost use Rattle.plan_model.specs.Pieces.{piece_count};
 ghost use Rattle.plan_model.specs.Types.{HasColumns};
-ghost use Rattle.op_parts.specs.Takes.{HasOnly, LeftHasColumns};
-ghost use Rattle.op_parts.proofs.Takes.{takes_row};
+ghost use Rattle.op_parts.specs.Takes.{HasOnly, LeftHasColumns, has_columns};
+ghost use Rattle.op_parts.proofs.Takes.{columns_told, takes_row};
 ghost use Rattle.op_shave.specs.Shave.{shave_fits, shave_keys, without_last};
 ghost use Rattle.op_shave.specs.ShaveLaws.{shave_fits_by_part, shave_output_in_range, shave_takes_part, shave_together, shaved_owned};
 
@@ -71,7 +71,7 @@ impl PartOp for ShaveOp {
 
     ghost fits = { λ op A B. shave_fits (pieces op.runs) A };
 
-    ghost Takes = { λ op A B. HasColumns op.cols A };
+    ghost takes = { λ op A B. has_columns op.cols A };
 
     ghost TakesRow = { λ op side x. LeftHasColumns op.cols side x };
 
@@ -119,7 +119,7 @@ impl PartOp for ShaveOp {
 
     ghost output_in_range = { λ op A B a b fits. shave_output_in_range (pieces op.runs) A fits };
 
-    ghost takes_rows = { λ op A B x taken. takes_row op.cols A B x taken };
+    ghost takes_rows = { λ op A B x taken. takes_row op.cols A B x (columns_told op.cols A taken) };
 
-    ghost takes_parts = { λ op A B k taken. shave_takes_part op.cols k A taken };
+    ghost takes_parts = { λ op A B k taken. shave_takes_part op.cols k A (columns_told op.cols A taken) };
 }

@@ -172,6 +172,37 @@ fn a_refused_update_leaves_source_and_plans(rt: HostRuntime) -> Result<(), Fail>
 }
 
 #[test]
+fn a_source_that_is_declared_later_leaves_plans_as_they_are(rt: HostRuntime) -> Result<(), Fail> {
+    let look = r#"{"op":"exact","plan":"p","rows":[[1],[2]]}"#;
+    let rows = [
+        (
+            r#"{"op":"source","name":"s","kinds":["int"],"signed":false,"budget":0}"#,
+            r#"{"ok":true}"#,
+        ),
+        (
+            r#"{"op":"plan","name":"p","plan":{"format":1,"steps":[{"do":"source","name":"s"}]}}"#,
+            r#"{"cols":["int"],"ok":true,"uses":[["s",1]]}"#,
+        ),
+        (
+            r#"{"op":"source","name":"t","kinds":["int"],"signed":false,"budget":0}"#,
+            r#"{"ok":true}"#,
+        ),
+        (
+            r#"{"op":"update","source":"t","csv":"1,5\n"}"#,
+            r#"{"ok":true,"records":1}"#,
+        ),
+        (look, r#"{"ok":true,"weights":["0","0"]}"#),
+        (
+            r#"{"op":"update","source":"s","csv":"2,3\n"}"#,
+            r#"{"ok":true,"records":1}"#,
+        ),
+        (look, r#"{"ok":true,"weights":["0","3"]}"#),
+    ];
+    assert_eq!(rt; first_wrong_of(rt.alloc(), &rows)?, None);
+    Ok(())
+}
+
+#[test]
 fn a_dropped_name_is_free(rt: HostRuntime) -> Result<(), Fail> {
     let plan =
         r#"{"op":"plan","name":"p","plan":{"format":1,"steps":[{"do":"source","name":"a"}]}}"#;

@@ -27,4 +27,4 @@ pub follow_ok : (parts : Parts) (plans : List Planned) → types_of parts.source
 follow_ok parts plans types states prepared =
     ap (λ (ts : List SourceType). first_misfit ts (family_of parts.sources.pending) (plan_states parts.plans.items)) types
     ∙ ap (first_misfit (types_of parts.sources.committed) (family_of parts.sources.pending)) (sym states)
-    ∙ first_misfit-none (types_of parts.sources.committed) (family_of parts.sources.pending) plans (λ k d lt. (prepared k d lt).pending.family.fits)
+    ∙ first_misfit-none (types_of parts.sources.committed) (family_of parts.sources.pending) plans (λ k d lt. (prepared k d lt).fits)

@@ -1,9 +1,9 @@
 -- What is kept of a plan, when a source is declared and when sources change.
-use Rattle.std.proofs.Common.{◌≡◌, ℕ, List, [], ◌∷◌, ◌++◌, refl, sym, ap, subst, ◌∙◌, length, map}
-use Rattle.std.specs.Prelude.{All, ◌≤◌}
+use Rattle.std.proofs.Common.{◌≡◌, ℕ, List, [], ◌∷◌, ◌++◌, refl, sym, ap, subst, ◌∙◌, arith, length, length-append, map, take}
+use Rattle.std.specs.Prelude.{All, ◌≤◌, ◌+◌, IsTrue}
 use Rattle.std.specs.List.{IsDistinct}
 use Rattle.std.proofs.lemmas.List.Elements.{All-map, All-weaker}
-use Rattle.std.proofs.lemmas.List.{map-append}
+use Rattle.std.proofs.lemmas.List.{length-take, map-append, take-append-le}
 use lib.ListN.{length-map}
 use Rattle.record_text.specs.Names.{name_eq}
 use Rattle.datasets.specs.Dataset.{Dataset}
@@ -11,30 +11,40 @@ use Rattle.plan_model.specs.Evaluation.{Family, dataset_at, last_or}
 use Rattle.plan_model.specs.Types.{Keeps}
 use Rattle.plan_model.specs.declared.source_types.SourceType.{SourceType}
 use Rattle.weighted_set.specs.Held.{AllInRange}
-use Rattle.flow_graph.specs.PlanGraphs.{node_meaning}
-use Rattle.flow_graph.proofs.DeclaredLater.{IsGraphOf-extended, StandsFor-extended}
+use Rattle.plan_model.specs.Limits.{is_plan}
+use Rattle.session_core.specs.Flow.{StandsFor}
 use Rattle.session_core.specs.Named.{source_name}
 use Rattle.session_core.specs.Planned.{Holds, IsSettled, plan_state, plan_states}
 use Rattle.session_core.specs.Sound.{IsSoundPlan, IsSoundSource, Sound}
 use Rattle.session_core.specs.State.{SourceState, State, family_of, type_of, types_of}
 use Rattle.session_core.specs.declared.plans.Planned.{Planned}
-use Rattle.plan_model.proofs.AcceptedLater.{columns-extended, known-accepted}
+use Rattle.plan_model.proofs.AcceptedLater.{Accepts-extended, columns-extended, known-accepted}
+use Rattle.plan_model.proofs.Extended.{misfit-extended}
 use Rattle.session_core.proofs.Typed.{AllInRange-sound, Keeps-sound}
 
 -- ---- one source more
 
 module _ (types : List SourceType) (t : SourceType) (F : Family) (A : Dataset) (same : length F ≡ length types)
     (keeps : Keeps (types ++ t ∷ []) (F ++ A ∷ [])) (in_range : (s : ℕ) → AllInRange (dataset_at (F ++ A ∷ []) s)) where
-  -- the graph of a plan stands for the sources with one more
+  -- the graph of a plan, which was built on the first sources, stands for them as before
   pub IsSettled-extended : (planned : Planned) → IsSettled types F planned → IsSettled (types ++ t ∷ []) (F ++ A ∷ []) planned
-  IsSettled-extended planned h = record {
-    holds = record {
-      graph = IsGraphOf-extended node_meaning planned.graph planned.plan types t h.holds.graph;
-      stands = StandsFor-extended node_meaning planned.graph planned.plan types t h.holds.graph F A same keeps in_range h.holds.stands;
-      cols = h.holds.cols ∙ sym (ap (last_or []) (columns-extended types t planned.plan (known-accepted types t planned.plan h.holds.graph.kept.accepted)));
-    };
-    idle = h.idle;
-  }
+  IsSettled-extended planned h =
+      let n = length planned.graph.types in
+      let known = known-accepted types t planned.plan h.holds.accepted in
+      let few : n ≤ length types = let front = length-take n types in let all = ap length h.holds.first in omega arith in
+      record {
+        holds = record {
+          built = h.holds.built;
+          accepted = Accepts-extended types t planned.plan h.holds.accepted;
+          fits = misfit-extended types t F A same planned.plan known ∙ h.holds.fits;
+          size = length-append F (A ∷ []) ∙ ap (λ k. k + 1) same ∙ sym (length-append types (t ∷ []));
+          same = h.holds.same;
+          first = take-append-le n types (t ∷ []) few ∙ h.holds.first;
+          stands = subst (StandsFor planned.graph) (sym (take-append-le n F (A ∷ []) (omega arith))) h.holds.stands;
+          cols = h.holds.cols ∙ sym (ap (last_or []) (columns-extended types t planned.plan known));
+        };
+        idle = h.idle;
+      }
 
 -- the same, for the plans of a state to which a source is added
 pub AllSettled-declared : (sources : List SourceState) (new : SourceState) (plans : List Planned) → All IsSoundSource (sources ++ new ∷ [])
@@ -53,7 +63,12 @@ AllSettled-declared sources new plans sound all =
 -- ---- soundness
 
 IsSoundPlan-held : (sources : List SourceState) (planned : Planned) → Holds (types_of sources) (family_of sources) planned → IsSoundPlan sources (plan_state planned)
-IsSoundPlan-held sources planned h = record { limits = h.graph.kept.steps; built = h.graph.kept.built; accepted = h.graph.kept.accepted; fits = h.stands.family.fits }
+IsSoundPlan-held sources planned h = record {
+  limits = subst (λ plan. IsTrue (is_plan plan)) h.same h.stands.plan.kept.steps;
+  built = h.built;
+  accepted = h.accepted;
+  fits = h.fits;
+}
 
 -- plans whose graphs stand for the sources are sound
 pub AllSound-held : (sources : List SourceState) (plans : List Planned) → All (Holds (types_of sources) (family_of sources)) plans → All (IsSoundPlan sources) (plan_states plans)

@@ -8,6 +8,9 @@ pub mod Turned
 pub mod HeldLemmas
 pub mod PlanSteps
 pub mod PlanLoops
+pub mod FirstSources
+pub mod Becoming
+pub mod Buildable
 pub mod Kept
 pub mod Outcomes
 pub mod Declared

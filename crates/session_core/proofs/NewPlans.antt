@@ -203,7 +203,7 @@ module _ (old new : Parts) (added : Planned) (grown : Grown old new added) (sett
       → after ≡ before ++ reply_line (reply.Planned cols used)
       → Does (Ok tt) old (planned (state_of old) (plan_state added)) new before after
   Does-grown checked cols used before after h cols_are used_are told =
-      let is = planned_fit (state_of old) (plan_state added) fresh h.0 holds.holds.stands.family.fits in
+      let is = planned_fit (state_of old) (plan_state added) fresh h.0 holds.holds.fits in
       record {
         settled = AreSettled-grown;
         responds = (

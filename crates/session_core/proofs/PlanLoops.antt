@@ -81,7 +81,7 @@ module _ (source : ℕ) (changes : List Change) (old new : List Planned) (at : �
       → (types : List SourceType) (F G : Family) → MayTurnAll old types source changes F G → (d : Planned)
       → first_misfit types G (plan_states new) ≡ Some (refusal.Range (get_or new at d).name step)
   is_first_misfit step lt unfit types F G m d =
-      first_misfit-at types G new at d step lt (λ k below. (h.before types F G m k d (omega arith) below).pending.family.fits) (unfit types F G m d)
+      first_misfit-at types G new at d step lt (λ k below. (h.before types F G m k d (omega arith) below).fits) (unfit types F G m d)
 
 -- the plans before a place are of `Done`, and those from there on of `Open`
 pub record TurnedBefore (Open Done : List SourceType → Family → Family → Planned → Type 0) (old new : List Planned) (at : ℕ) : Type 0 where

@@ -1,11 +1,14 @@
 -- Plans that are kept up to date.
-use Rattle.std.specs.Prelude.{◌≡◌, ℕ, ◌<◌, All, List, [], length, map, slice_index_or, Some}
+use Rattle.std.specs.Prelude.{◌≡◌, ℕ, ◌<◌, All, false, IsTrue, List, [], length, map, slice_index_or, None, Some}
 use Rattle.plan_model.specs.Evaluation.{Family, last_or}
+use Rattle.plan_model.specs.Acceptance.{Accepts}
+use Rattle.plan_model.specs.Fits.{misfit}
 use Rattle.plan_model.specs.Types.{columns}
+use Rattle.plan_reader.specs.Plans.{is_built}
 use Rattle.plan_model.specs.declared.source_types.SourceType.{SourceType}
 use Rattle.messages.specs.declared.refusal.Refusal.TheVariants as refusal
 use Rattle.weighted_set.specs.declared.weighted.Change.{Change}
-use Rattle.session_core.specs.Flow.{IsGraphOf, IsIdle, StandsFor, StandsPending, TurnsInto}
+use Rattle.session_core.specs.Flow.{Becomes, StandsFor, TurnsInto, first_of}
 use Rattle.session_core.specs.Machine.{first_misfit}
 use Rattle.session_core.specs.State.{PlanState}
 use Rattle.session_core.specs.declared.plans.Planned.{Planned}
@@ -19,21 +22,29 @@ plan_state planned = record { name = planned.name; plan = planned.plan }
 abbrev pub plan_states : List Planned → List PlanState
 plan_states plans = map plan_state plans
 
--- the plan's graph stands for a family of these types, and its columns are told
+-- the plan can be read, is accepted for sources of these types and fits the family; its graph, which was built on the
+-- first of them, stands for what they hold, and its columns are told
 pub record Holds (types : List SourceType) (F : Family) (planned : Planned) : Type 0 where
-  pub graph : IsGraphOf planned.graph planned.plan types
-  pub stands : StandsFor planned.graph planned.plan types F
+  pub built : IsTrue (is_built planned.plan)
+  pub accepted : Accepts planned.plan types
+  pub fits : misfit planned.plan types F ≡ None
+  pub size : length F ≡ length types
+  pub same : planned.graph.plan ≡ planned.plan
+  pub first : first_of planned.graph types ≡ planned.graph.types
+  pub stands : StandsFor planned.graph (first_of planned.graph F)
   pub cols : planned.cols ≡ last_or [] (columns planned.plan types)
 
 -- and nothing is pending in it
 pub record IsSettled (types : List SourceType) (F : Family) (planned : Planned) : Type 0 where
   pub holds : Holds types F planned
-  pub idle : IsIdle planned.graph
+  pub idle : planned.graph.pending ≡ false
 
--- and what is pending in it is what G gives
+-- and once what is pending in it is committed, it stands for G, which the plan fits
 pub record IsPrepared (types : List SourceType) (F G : Family) (planned : Planned) : Type 0 where
   pub holds : Holds types F planned
-  pub pending : StandsPending planned.graph planned.plan types G
+  pub fits : misfit planned.plan types G ≡ None
+  pub size : length G ≡ length types
+  pub becomes : Becomes planned.graph (first_of planned.graph G)
 
 -- settled plans on F, which the changes of a source turn into G
 pub record MayTurnAll (plans : List Planned) (types : List SourceType) (source : ℕ) (changes : List Change) (F G : Family) : Type 0 where

@@ -1,11 +1,12 @@
--- Which requests read or write what plans keep.
-use Rattle.std.specs.Prelude.{Bool, true, false, Result, Ok}
+-- How many steps a request may take.
+use Rattle.std.specs.Prelude.{ℕ, ◌*◌, length, Option, None, Some, Result, Ok}
 use Rattle.messages.specs.declared.refusal.Refusal.{Refusal}
 use Rattle.messages.specs.declared.request.Request.{Request}
 use Rattle.messages.specs.declared.request.Request.TheVariants as request
 
--- all requests but updates and declarations of plans take no step
-abbrev pub is_still : Result Request Refusal → Bool
-is_still (Ok (request.Update name csv header)) = false
-is_still (Ok (request.Plan name plan)) = false
-is_still _ = true
+-- two for each row that is looked up, and none for other requests; updates and declarations of plans have no bound
+abbrev pub step_bound : Result Request Refusal → Option ℕ
+step_bound (Ok (request.Update name csv header)) = None
+step_bound (Ok (request.Plan name plan)) = None
+step_bound (Ok (request.Exact of rows)) = Some (2 * length rows)
+step_bound _ = Some 0

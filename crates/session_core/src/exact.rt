@@ -1,5 +1,5 @@
 //! Exact weights of rows, for the curator alone.
-ghost use Rattle.std.specs.Prelude.{◌≡◌, [], IfOk, map};
+ghost use Rattle.std.specs.Prelude.{◌≡◌, ◌+◌, ◌*◌, ◌≤◌, [], IfOk, length, map};
 ghost use Rattle.datasets.specs.Dataset.{at};
 ghost use Rattle.messages.specs.declared.target.Target.TheVariants as target;
 ghost use Rattle.session_core.specs.Machine.{exact_reply, first_row_fault, row_refusal};
@@ -22,7 +22,7 @@ impl Parts {
         steps: &mut Steps<L>,
     ) -> Result<Reply, Memory>
         requires { AreSettled self.now }
-        ensures work { steps.new ≡ steps.old }
+        ensures work { steps.new ≤ steps.old + 2 * length rows.now }
         ensures reply { IfOk result (λ reply. reply ≡ exact_reply (state_of self.now) of rows.now) }
     {
         match of {
@@ -56,7 +56,7 @@ impl Parts {
         steps: &mut Steps<L>,
     ) -> Result<Reply, Memory>
         requires { AreSettled self.now }
-        ensures work { steps.new ≡ steps.old }
+        ensures work { steps.new ≤ steps.old + 2 * length rows.now }
         ensures reply { IfOk result
             (λ reply. reply ≡ exact_reply (state_of self.now) (target.Plan name) rows.now) }
     {

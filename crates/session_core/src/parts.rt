@@ -1,12 +1,12 @@
 //! What a session keeps, and its answer to a line.
-ghost use Rattle.std.specs.Prelude.{◌≡◌, ◌++◌, true, IfOk, Ok, OnErr, OnOk};
+ghost use Rattle.std.specs.Prelude.{◌≡◌, ◌+◌, ◌++◌, ◌≤◌, ℕ, IfOk, Ok, OnErr, OnOk, Some};
 ghost use Rattle.request_text.specs.Requests.{IsWithinLimits, request_on};
 ghost use Rattle.reply_text.specs.Replies.{reply_line};
 ghost use Rattle.messages.specs.declared.reply.Reply.TheVariants as answer;
 ghost use Rattle.session_core.specs.Machine.{answered, performed, sum_reply};
 ghost use Rattle.session_core.specs.Parts.{AreSettled, Does, state_of};
 ghost use Rattle.session_core.specs.State.{start_state};
-ghost use Rattle.session_core.specs.Work.{is_still};
+ghost use Rattle.session_core.specs.Work.{step_bound};
 
 use crate::plans::Planned;
 use crate::sources::Sources;
@@ -57,7 +57,7 @@ impl Parts {
         requires { AreSettled self.old }
         ensures does { Does result self.old (answered (state_of self.old) (request_on line.now))
             self.new reply.old.items reply.new.items }
-        ensures work { is_still (request_on line.now) ≡ true → steps.new ≡ steps.old }
+        ensures work { (n : ℕ) → step_bound (request_on line.now) ≡ Some n → steps.new ≤ steps.old + n }
     {
         match read_request(self.alloc, line) {
             Ok(request) => self.perform(request, reply, steps),
@@ -77,7 +77,7 @@ impl Parts {
         requires limits { IsWithinLimits request }
         ensures does { Does result self.old (performed (state_of self.old) request)
             self.new reply.old.items reply.new.items }
-        ensures work { is_still (Ok request) ≡ true → steps.new ≡ steps.old }
+        ensures work { (n : ℕ) → step_bound (Ok request) ≡ Some n → steps.new ≤ steps.old + n }
     {
         match request {
             Request::Sum { weights } => {

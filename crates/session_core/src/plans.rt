@@ -1,5 +1,5 @@
 //! Plans that are kept up to date.
-ghost use Rattle.std.specs.Prelude.{◌≡◌, ℕ, All, IfErr, IfOk, List, OnErr, OnOk, map};
+ghost use Rattle.std.specs.Prelude.{◌≡◌, ◌+◌, ◌*◌, ◌≤◌, ℕ, All, IfErr, IfOk, List, OnErr, OnOk, length, map};
 ghost use Rattle.datasets.specs.Dataset.{at};
 ghost use Rattle.plan_model.specs.Evaluation.{Family, eval};
 ghost use Rattle.plan_model.specs.declared.source_types.SourceType.{SourceType};
@@ -42,7 +42,7 @@ impl Planned {
         rows: &[Row],
         steps: &mut Steps<L>,
     ) -> Result<Weights, Memory>
-        ensures work { steps.new ≡ steps.old }
+        ensures work { steps.new ≤ steps.old + 2 * length rows.now }
         ensures weights { IfOk result (λ weights. (types : List SourceType) (F : Family) → Holds types F self.now → weights ≡ map (at (eval self.now.plan types F)) rows.now) }
     {
         let mut weights = Vec::with_capacity(alloc, rows.len())?;
@@ -65,6 +65,10 @@ impl Planned {
         ensures err { OnErr result ((types : List SourceType) (F : Family) → IsSettled types F self.old → IsSettled types F self.new) }
         ensures range { IfErr result (λ e. (types : List SourceType) (F G : Family) → IsSettled types F self.old → TurnsInto types source changes.now F G → IsMisfit self.old.plan types G e) }
     {
+        // A graph doesn't know the sources that were declared after it was built, and its plan uses none of them.
+        if source >= self.graph.source_count() {
+            return Ok(());
+        }
         self.graph.prepare(source, changes, steps)
     }
 }

@@ -1,10 +1,10 @@
 //! The session: one line in, one reply out.
-ghost use Rattle.std.specs.Prelude.{◌≡◌, ◌<◌, [], true, IfOk, OnErr, length};
+ghost use Rattle.std.specs.Prelude.{◌≡◌, ◌+◌, ◌<◌, ◌≤◌, ℕ, [], IfOk, OnErr, Some, length};
 ghost use Rattle.request_text.specs.Requests.{request_on};
 ghost use Rattle.session_core.specs.Machine.{LineAnswered};
 ghost use Rattle.session_core.specs.Sound.{Sound};
 ghost use Rattle.session_core.specs.State.{start_state};
-ghost use Rattle.session_core.specs.Work.{is_still};
+ghost use Rattle.session_core.specs.Work.{step_bound};
 
 use crate::parts::Parts;
 use io_edge::{Noise, Shelf};
@@ -62,7 +62,7 @@ impl Session {
         ensures answered { LineAnswered (N.given noise.old) (N.given noise.new)
             self.old line.now result reply.new.items self.new }
         ensures sound { Sound self.new }
-        ensures work { is_still (request_on line.now) ≡ true → steps.new ≡ steps.old }
+        ensures work { (n : ℕ) → step_bound (request_on line.now) ≡ Some n → steps.new ≤ steps.old + n }
         ensures emptied { OnErr result (reply.new.items ≡ []) }
         ensures noise { N.faults noise.new ≡ N.faults noise.old }
         ensures shelf { F.faults shelf.new ≡ F.faults shelf.old }

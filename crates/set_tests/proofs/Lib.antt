@@ -1,2 +1,3 @@
 pub mod ListedParts
+pub mod Empty
 pub mod Trials

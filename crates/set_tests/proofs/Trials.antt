@@ -13,12 +13,12 @@ use Rattle.datasets.specs.Dataset.{Dataset, at, empty, rows, set_at}
 use Rattle.datasets.specs.Entries.{Row, same_row}
 use Rattle.operators.proofs.SingleWeights.{AllByRecursion-has_row}
 use Rattle.op_parts.proofs.Members.{at-weighed}
-use Rattle.op_linear.specs.Select.{SelectParts, select_fits}
+use Rattle.op_parts.proofs.Takes.{columns_tested}
+use Rattle.op_parts.specs.Takes.{has_columns}
 use Rattle.plan_model.proofs.TypedSteps.{IsTyped-empty}
 use Rattle.plan_model.specs.Evaluation.{Family, dataset_at}
 use Rattle.plan_model.specs.Types.{HasColumns, Keeps, KeepsType}
 use Rattle.plan_model.specs.declared.source_types.SourceType.{SourceType}
-use Rattle.plan_model.specs.declared.step.Step.{Step}
 use Rattle.dataflow.proofs.Evaluated.{get_or-map_at}
 use Rattle.dataflow.proofs.Next.{no_changes}
 use Rattle.weighted_set.proofs.ChangeLists.{change_list_leads_there, changes_are_change_list}
@@ -27,18 +27,14 @@ use Rattle.weighted_set.proofs.Sets.{AllInRange-empty}
 use Rattle.weighted_set.specs.Adding.{AreChangesOfAdding}
 use Rattle.weighted_set.specs.Changes.{AreChangesOf, IsChangeList, applied}
 use Rattle.weighted_set.specs.Held.{AllInRange, HeldDatasets}
-use Rattle.weighted_set.specs.Standing.{MayBecome}
-use Rattle.weighted_set.specs.declared.operator.Operator.{Ghosts}
+use Rattle.weighted_set.specs.Standing.{MayBecome, Meaning, Standing}
 use Rattle.weighted_set.specs.declared.weighted.Change.{Change}
 use Rattle.weighted_set.specs.declared.weighted.Weighted.{Weighted}
-use Rattle.flow_graph.proofs.DeclaredLater.{IsGraphOf-extended, StandsFor-extended}
-use Rattle.flow_graph.proofs.FreshGraphs.{fits-none}
-use Rattle.flow_graph.proofs.Turning.{length-Keeps}
+use Rattle.flow_graph.proofs.Filling.{length-Keeps}
 use Rattle.flow_graph.specs.Fresh.{committed_family}
-use Rattle.flow_graph.specs.Graphs.{TurnsInto}
-use Rattle.flow_graph.specs.PlanGraphs.{FlowGraph, StandsFor, node_meaning}
+use Rattle.flow_graph.specs.Plans.{TurnsInto}
 use Rattle.set_tests.specs.Columns.{two_ints}
-use Rattle.set_tests.specs.Trials.{AreSettled, IsRunning, MayPut, Serves, no_set, put_at}
+use Rattle.set_tests.specs.Trials.{AreSettled, MayPut, Serves, no_set, put_at}
 
 HasColumns-set_at : (cols : List Kind) (A : Dataset) (x : Row) (w : Ratio) → HasColumns cols A → kinds_of x ≡ cols → HasColumns cols (set_at x w A)
 HasColumns-set_at cols A x w h e =
@@ -54,9 +50,9 @@ HasColumns-applied cols A (c ∷ changes) h each =
     HasColumns-applied cols (set_at c.row c.new A) changes (HasColumns-set_at cols A c.row c.new h (All-head (λ (d : Change). kinds_of d.row ≡ cols) c changes each)) (All-tail (λ (c : Change). kinds_of c.row ≡ cols) c changes each)
 
 -- the engine may be asked for changes of rows of two numbers
-pub MayBecome-served : {E : Type 0} (op : Ghosts E) (engine : E) (A : Dataset) (changes : List Change) → Serves op engine A → AllInRange A → AreChangesOf changes A → All (λ (c : Change). kinds_of c.row ≡ two_ints) changes
-    → MayBecome (op.StandsFor engine) (op.Takes engine) (op.fits engine) changes [] A empty (applied A changes) empty
-MayBecome-served op engine A changes serves in_range can each = record {
+pub MayBecome-served : {E : Type 0} (of : E → Standing) (engine : E) (A : Dataset) (changes : List Change) → Serves of engine A → AllInRange A → AreChangesOf changes A → All (λ (c : Change). kinds_of c.row ≡ two_ints) changes
+    → MayBecome (of engine) changes [] A empty (applied A changes) empty
+MayBecome-served of engine A changes serves in_range can each = record {
   stands = serves.stands;
   left_changes = changes_are_change_list changes A can;
   right_changes = no_changes empty;
@@ -68,21 +64,21 @@ MayBecome-served op engine A changes serves in_range can each = record {
 }
 
 -- the engine serves what is committed
-pub Serves-settled : {E : Type 0} (op : Ghosts E) (old new : E) (A C : Dataset) (is_kept : Bool) → Serves op old A → HasColumns two_ints C → op.fits old C empty ≡ true → op.is_pending new ≡ false → op.StandsFor new (if is_kept then C else A) empty
-    → op.fits new ≡ op.fits old → ((B D : Dataset) → op.Takes old B D → op.Takes new B D) → Serves op new (if is_kept then C else A)
-Serves-settled op old new A C true serves columns fits idle stands same takes = record {
+pub Serves-settled : {E : Type 0} (of : E → Standing) (old new : E) (A C : Dataset) (is_kept : Bool) → Serves of old A → HasColumns two_ints C → (of old).meaning.fits C empty ≡ true → (of new).is_pending ≡ false → (of new).StandsFor (if is_kept then C else A) empty
+    → (of new).meaning ≡ (of old).meaning → Serves of new (if is_kept then C else A)
+Serves-settled of old new A C true serves columns fits idle stands same = record {
   columns = columns;
   idle = idle;
   stands = stands;
-  fits = ap (λ f. f C empty) same ∙ fits;
-  takes = λ B h. takes B empty (serves.takes B h);
+  fits = ap (λ (m : Meaning). m.fits C empty) same ∙ fits;
+  takes = λ B h. ap (λ (m : Meaning). m.takes B empty) same ∙ serves.takes B h;
 }
-Serves-settled op old new A C false serves columns fits idle stands same takes = record {
+Serves-settled of old new A C false serves columns fits idle stands same = record {
   columns = serves.columns;
   idle = idle;
   stands = stands;
-  fits = ap (λ f. f A empty) same ∙ serves.fits;
-  takes = λ B h. takes B empty (serves.takes B h);
+  fits = ap (λ (m : Meaning). m.fits A empty) same ∙ serves.fits;
+  takes = λ B h. ap (λ (m : Meaning). m.takes B empty) same ∙ serves.takes B h;
 }
 
 -- ---- sets
@@ -131,42 +127,15 @@ Keeps-two (t ∷ []) size = absurd (omega arith)
 Keeps-two (t ∷ u ∷ []) size = (keeps_none t, (keeps_none u, tt))
 Keeps-two (t ∷ u ∷ v ∷ types) size = absurd (omega arith)
 
--- ---- one source more
-Keeps-more : (types : List SourceType) (F : Family) (t : SourceType) → Keeps types F → Keeps (types ++ t ∷ []) (F ++ empty ∷ [])
-Keeps-more [] [] t keeps = (keeps_none t, tt)
-Keeps-more [] (A ∷ F) t keeps = absurd keeps
-Keeps-more (u ∷ types) [] t keeps = absurd keeps
-Keeps-more (u ∷ types) (A ∷ F) t keeps = (keeps.0, Keeps-more types F t keeps.1)
-
-in_range-more : (F : Family) → ((s : ℕ) → AllInRange (dataset_at F s)) → (s : ℕ) → AllInRange (dataset_at (F ++ empty ∷ []) s)
-in_range-more [] h zero = AllInRange-empty
-in_range-more [] h (suc s) = AllInRange-empty
-in_range-more (A ∷ F) h zero = h 0
-in_range-more (A ∷ F) h (suc s) = in_range-more F (λ s. h (suc s)) s
-
--- the graph keeps its plan up to date also where there is one source more
-pub IsRunning-extended : (graph : FlowGraph) (types : List SourceType) (sets : List HeldDatasets) (t : SourceType) → IsRunning graph types sets → IsRunning graph (types ++ t ∷ []) (sets ++ no_set ∷ [])
-IsRunning-extended graph types sets t running =
-    let F = committed_family sets in
-    let family = running.stands.family in
-    record {
-      plan = running.plan;
-      of_plan = IsGraphOf-extended node_meaning graph running.plan types t running.of_plan;
-      stands = subst (λ G. StandsFor graph running.plan (types ++ t ∷ []) G) (sym (map-append (λ (h : HeldDatasets). h.committed) sets (no_set ∷ [])))
-          (StandsFor-extended node_meaning graph running.plan types t running.of_plan F empty (length-Keeps types F family.keeps) (Keeps-more types F t family.keeps) (in_range-more F family.in_range) running.stands);
-      idle = running.idle;
-      settled = All-append (λ (s : HeldDatasets). s.pending ≡ s.committed) sets (no_set ∷ []) running.settled (All-cons (λ (s : HeldDatasets). s.pending ≡ s.committed) no_set [] refl (All-nil _));
-    }
-
 -- ---- the start
-pub Serves-select : {E : Type 0} (op : Ghosts E) (engine : E) (select : SelectParts) → op.is_pending engine ≡ false → op.StandsFor engine empty empty → op.fits engine ≡ (λ A B. select_fits select A) → ((A B : Dataset) → HasColumns select.cols A → op.Takes engine A B) → select.cols ≡ two_ints
-    → Serves op engine empty
-Serves-select op engine select idle stands fits takes cols = record {
+pub Serves-start : {E : Type 0} (of : E → Standing) (engine : E) (cols : List Kind) → (of engine).is_pending ≡ false → (of engine).StandsFor empty empty → (of engine).meaning.fits empty empty ≡ true
+    → ((B : Dataset) → (of engine).meaning.takes B empty ≡ has_columns cols B) → cols ≡ two_ints → Serves of engine empty
+Serves-start of engine cols idle stands fits takes is = record {
   columns = (IsTyped-empty two_ints true).rows;
   idle = idle;
   stands = stands;
-  fits = ap (λ f. f empty empty) fits ∙ fits-none (Step.Select 0 select.row) empty empty refl;
-  takes = λ B has. takes B empty (subst (λ ks. HasColumns ks B) (sym cols) has);
+  fits = fits;
+  takes = λ B has. takes B ∙ columns_tested cols B (subst (λ ks. HasColumns ks B) (sym is) has);
 }
 
 -- rows of the source's columns can be added to a source at a place

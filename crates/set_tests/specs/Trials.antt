@@ -4,36 +4,35 @@ use Rattle.datasets.specs.Dataset.{Dataset, empty}
 use Rattle.plan_model.specs.Evaluation.{Family, dataset_at}
 use Rattle.plan_model.specs.Types.{HasColumns}
 use Rattle.plan_model.specs.declared.source_types.SourceType.{SourceType}
-use Rattle.plan_model.specs.declared.step.Step.{Step}
 use Rattle.weighted_set.specs.Changes.{AreChangesOf, applied}
 use Rattle.weighted_set.specs.Held.{HeldDatasets}
 -- a set without rows
 pub use Rattle.weighted_set.specs.Parts.{empty_part as no_set}
-use Rattle.weighted_set.specs.declared.operator.Operator.{Ghosts}
+use Rattle.weighted_set.specs.Standing.{Standing}
 use Rattle.flow_graph.specs.Fresh.{committed_family}
 use Rattle.weighted_set.specs.declared.weighted.Change.{Change}
-use Rattle.flow_graph.specs.Graphs.{TurnsInto}
-use Rattle.flow_graph.specs.PlanGraphs.{FlowGraph, IsGraphOf, IsIdle, StandsFor}
+use Rattle.flow_graph.specs.Graphs.{StandsFor}
+use Rattle.flow_graph.specs.Plans.{TurnsInto}
+use Rattle.flow_graph.specs.declared.flow.FlowGraph.{FlowGraph}
 use Rattle.set_tests.specs.Columns.{two_ints}
 
 -- the engine takes rows of two numbers, and it stands for those of A on the left and for none on the right; nothing is pending
-pub record Serves {E : Type 0} (op : Ghosts E) (engine : E) (A : Dataset) : Type 0 where
+pub record Serves {E : Type 0} (of : E → Standing) (engine : E) (A : Dataset) : Type 0 where
   pub columns : HasColumns two_ints A
-  pub idle : op.is_pending engine ≡ false
-  pub stands : op.StandsFor engine A empty
-  pub fits : op.fits engine A empty ≡ true
-  pub takes : (B : Dataset) → HasColumns two_ints B → op.Takes engine B empty
+  pub idle : (of engine).is_pending ≡ false
+  pub stands : (of engine).StandsFor A empty
+  pub fits : (of engine).meaning.fits A empty ≡ true
+  pub takes : (B : Dataset) → HasColumns two_ints B → (of engine).meaning.takes B empty ≡ true
 
 -- nothing is pending in the sets
 abbrev pub AreSettled : List HeldDatasets → Type 0
 AreSettled sets = All (λ (set : HeldDatasets). set.pending ≡ set.committed) sets
 
--- the graph keeps a plan up to date on what the sets hold, and nothing is pending
+-- the graph keeps its plan up to date on what the sets hold, which are of these types, and nothing is pending
 pub record IsRunning (graph : FlowGraph) (types : List SourceType) (sets : List HeldDatasets) : Type 0 where
-  pub plan : List Step
-  pub of_plan : IsGraphOf graph plan types
-  pub stands : StandsFor graph plan types (committed_family sets)
-  pub idle : IsIdle graph
+  pub of_types : graph.types ≡ types
+  pub stands : StandsFor graph (committed_family sets)
+  pub idle : graph.pending ≡ false
   pub settled : AreSettled sets
 
 -- the family with the changes made to one source

@@ -1,5 +1,5 @@
 //! Tests of the engines that keep an operator up to date.
-ghost use Rattle.std.specs.Prelude.{◌≡◌, ◌&&◌, ◌<◌, ◌↔◌, All, IfOk, IsTrue, OnOk, false, if◌then◌else◌, true};
+ghost use Rattle.std.specs.Prelude.{◌≡◌, ◌&&◌, ◌<◌, All, IfOk, IsTrue, OnOk, false, if◌then◌else◌, true};
 ghost use Rattle.datasets.specs.Dataset.{Dataset, empty};
 ghost use Rattle.record_text.specs.KindLists.{kinds_of};
 ghost use Rattle.weighted_set.specs.Changes.{AreChangesOf, applied};
@@ -8,7 +8,7 @@ ghost use Rattle.set_tests.specs.Trials.{Serves};
 
 use crate::columns::{only_second_column, two_ints};
 use crate::values::{MOST, are_changes, pair_weights};
-use flow_graph::{Keyed, Whole};
+use engines::{Keyed, Whole};
 use op_linear::SelectOp;
 use record_text::Kinds;
 use std::alloc::Global;
@@ -39,10 +39,9 @@ fn have_two_ints(changes: &[Change]) -> bool
 
 // Commits what is pending, or drops it.
 fn settle<E: Operator>(engine: &mut E, is_kept: bool)
-    ensures idle { E.is_pending engine.new ≡ false }
-    ensures stands { (A C : Dataset) → E.is_pending engine.old ≡ true → E.StandsFor engine.old A empty → E.StandsPending engine.old C empty → E.StandsFor engine.new (if is_kept then C else A) empty }
-    ensures same_fits { E.fits engine.new ≡ E.fits engine.old }
-    ensures same_takes { (A B : Dataset) → E.Takes engine.old A B ↔ E.Takes engine.new A B }
+    ensures idle { (E.standing engine.new).is_pending ≡ false }
+    ensures stands { (A C : Dataset) → (E.standing engine.old).StandsFor A empty → (E.standing engine.old).StandsPending C empty → (E.standing engine.new).StandsFor (if is_kept then C else A) empty }
+    ensures same { (E.standing engine.new).meaning ≡ (E.standing engine.old).meaning }
 {
     if is_kept {
         engine.commit();
@@ -60,10 +59,10 @@ fn turn<E: Operator, L: Ledger>(
     out: &mut Vec<Change>,
     steps: &mut Steps<L>,
 ) -> Result<bool, AddFault>
-    requires serves { Serves E.Operator engine.old input.now.committed }
+    requires serves { Serves E.standing engine.old input.now.committed }
     requires changes { AreChangesOf changes.now input.now.committed }
     requires rows { All (λ c. kinds_of c.row ≡ two_ints) changes.now }
-    ensures { IfOk result (λ fits. Serves E.Operator engine.new (if fits && is_kept then applied input.now.committed changes.now else input.now.committed)) }
+    ensures { IfOk result (λ fits. Serves E.standing engine.new (if fits && is_kept then applied input.now.committed changes.now else input.now.committed)) }
 {
     // Tells that the weights are in range.
     let _all = input.all_changes()?;
@@ -88,9 +87,9 @@ fn follow<E: Operator, L: Ledger>(
     steps: &mut Steps<L>,
 ) -> Result<bool, AddFault>
     requires settled { input.old.pending ≡ input.old.committed }
-    requires serves { Serves E.Operator engine.old input.old.committed }
+    requires serves { Serves E.standing engine.old input.old.committed }
     ensures settled { OnOk result (input.new.pending ≡ input.new.committed) }
-    ensures serves { OnOk result (Serves E.Operator engine.new input.new.committed) }
+    ensures serves { OnOk result (Serves E.standing engine.new input.new.committed) }
 {
     let added = pair_weights(*out.allocator(), rows)?;
     let changes = input.changes_of(added.as_slice(), true)?;
@@ -115,7 +114,7 @@ fn follow_all<E: Operator, L: Ledger>(
     engine: &mut E,
     steps: &mut Steps<L>,
 ) -> Result<(), AddFault>
-    requires { Serves E.Operator engine.old empty }
+    requires { Serves E.standing engine.old empty }
 {
     let turns: [(&[(i64, i64, i64)], bool, bool, &[(i64, i64, i64)]); 8] = [
         (

@@ -1,7 +1,7 @@
 //! Tests of graphs of plans.
 ghost use Rattle.std.specs.Prelude.{◌≡◌, ◌++◌, ◌<◌, ◌∷◌, [], IfOk, IsTrue, OnOk, length, true};
 ghost use Rattle.plan_model.specs.Evaluation.{dataset_at};
-ghost use Rattle.plan_reader.specs.Plans.{is_built};
+ghost use Rattle.flow_graph.specs.Steps.{have_nodes};
 ghost use Rattle.weighted_set.specs.Changes.{AreChangesOf};
 ghost use Rattle.flow_graph.specs.Fresh.{committed_family};
 ghost use Rattle.set_tests.specs.Columns.{two_ints};
@@ -59,7 +59,7 @@ fn two_sets(alloc: Global) -> Result<SourceSet, Memory>
 
 // The second numbers of the rows of a source.
 fn select_plan(alloc: Global, name: Name) -> Result<Plan, Memory>
-    ensures { IfOk result (λ plan. IsTrue (is_built plan)) }
+    ensures { IfOk result (λ plan. IsTrue (have_nodes plan)) }
 {
     let mut steps = Vec::new(alloc);
     steps.push(Step::Source { name })?;
@@ -70,7 +70,7 @@ fn select_plan(alloc: Global, name: Name) -> Result<Plan, Memory>
 
 // The rows of the second source whose second number isn't 0. The first one is a step, but not its input.
 fn filter_plan(alloc: Global, first: Name, second: Name) -> Result<Plan, Memory>
-    ensures { IfOk result (λ plan. IsTrue (is_built plan)) }
+    ensures { IfOk result (λ plan. IsTrue (have_nodes plan)) }
 {
     let mut steps = Vec::new(alloc);
     steps.push(Step::Source { name: first })?;
@@ -89,7 +89,7 @@ fn start<L: Ledger>(
     types: SourceTypes,
     steps: &mut Steps<L>,
 ) -> Result<Trial, Fail>
-    requires built { IsTrue (is_built plan.now) }
+    requires nodes { IsTrue (have_nodes plan.now) }
     requires two { length types ≡ 2 }
     ensures { IfOk result (λ trial. IsRunning trial.graph trial.types trial.sources) }
 {
@@ -103,16 +103,6 @@ fn start<L: Ledger>(
         }),
         Err(_) => Err(Fail::from("no graph")),
     }
-}
-
-// Declares a source without rows, once the graph is built.
-fn declare_later(alloc: Global, trial: &mut Trial, name: &[u8]) -> Result<(), Fail>
-    requires { IsRunning trial.old.graph trial.old.types trial.old.sources }
-    ensures { OnOk result (IsRunning trial.new.graph trial.new.types trial.new.sources) }
-{
-    let _name = declare(&mut trial.types, name)?;
-    trial.sources.push(HeldSet::new(alloc))?;
-    Ok(())
 }
 
 // The changes that adding rows to a source makes.
@@ -209,7 +199,7 @@ fn start_select<L: Ledger>(alloc: Global, steps: &mut Steps<L>) -> Result<Trial,
     start(alloc, &plan, types, steps)
 }
 
-// The graph of the rows of the second source whose second number isn't 0. A third source is declared later.
+// The graph of the rows of the second source whose second number isn't 0.
 fn start_filter<L: Ledger>(alloc: Global, steps: &mut Steps<L>) -> Result<Trial, Fail>
     ensures { IfOk result (λ trial. IsRunning trial.graph trial.types trial.sources) }
 {
@@ -217,9 +207,7 @@ fn start_filter<L: Ledger>(alloc: Global, steps: &mut Steps<L>) -> Result<Trial,
     let first = declare(&mut types, b"first")?;
     let second = declare(&mut types, b"second")?;
     let plan = filter_plan(alloc, first, second)?;
-    let mut trial = start(alloc, &plan, types, steps)?;
-    declare_later(alloc, &mut trial, b"third")?;
-    Ok(trial)
+    start(alloc, &plan, types, steps)
 }
 
 // A sum that is out of range is refused at the second step.
@@ -249,13 +237,11 @@ fn follow_filter<L: Ledger>(rt: &impl Abort, alloc: Global, blank: Blank) -> Res
     requires parts { blank.parts ≡ L.parts }
     requires some { 0 < blank.parts }
 {
-    let turns: [(usize, &[(i64, i64, i64)], bool, Option<usize>, i64); 6] = [
+    let turns: [(usize, &[(i64, i64, i64)], bool, Option<usize>, i64); 4] = [
         (0, &[(1, 7, 2)], true, None, 0),
         (1, &[(1, 7, 3), (1, 0, 5)], true, None, 3),
         (0, &[(1, 7, 5)], true, None, 3),
-        (2, &[(1, 7, 4)], true, None, 3),
         (1, &[(1, 7, -1)], true, None, 2),
-        (2, &[(1, 7, -4)], false, None, 2),
     ];
     let mut steps: Steps<L> = Steps::new(blank);
     let row = pair(alloc, 1, 7)?;

@@ -1,9 +1,6 @@
 //! Operators that are kept up to date.
-ghost use Rattle.std.specs.Prelude.{◌≡◌, ◌↔◌, [], Bool, IfErr, OnErr, OnOk, false, true};
-ghost use Rattle.datasets.specs.Dataset.{Dataset};
-ghost use Rattle.weighted_set.specs.Changes.{IsChangeList};
-ghost use Rattle.weighted_set.specs.Held.{AllInRange};
-ghost use Rattle.weighted_set.specs.Standing.{MayBecome};
+ghost use Rattle.std.specs.Prelude.{◌≡◌, [], IfErr, OnErr, OnOk, false};
+ghost use Rattle.weighted_set.specs.Standing.{AnswersChanges, ChangesMisfit, CommitsStanding, HasInputs, KeepsRange, KeepsStanding, Standing};
 ghost use Rattle.weighted_set.specs.declared.part_op.OpFault.TheVariants as fault;
 
 use crate::part_op::OpFault;
@@ -13,23 +10,8 @@ use steps::Steps;
 
 /// An operator on two inputs that change in two steps. An operator of one input leaves the right one empty.
 pub trait Operator {
-    /// What the operator keeps is what these inputs give it.
-    ghost StandsFor: { Self → Dataset → Dataset → Type 0 };
-
-    /// What is pending is what these inputs give it.
-    ghost StandsPending: { Self → Dataset → Dataset → Type 0 };
-
-    /// Changes are pending.
-    ghost is_pending: { Self → Bool };
-
-    /// The operator takes these inputs.
-    ghost Takes: { Self → Dataset → Dataset → Type 0 };
-
-    /// No value that the operator passes through is out of range.
-    ghost fits: { Self → Dataset → Dataset → Bool };
-
-    /// The output of the operator.
-    ghost output: { Self → Dataset → Dataset → Dataset };
+    /// What the operator means, and what it holds.
+    ghost standing: { Self → Standing };
 
     /// Makes the changes of both inputs pending, and lists the changes of the output in row order. `out` is
     /// emptied first. After a refusal nothing is pending.
@@ -40,36 +22,27 @@ pub trait Operator {
         out: &mut Vec<Change>,
         steps: &mut Steps<L>,
     ) -> Result<(), OpFault>
-        requires idle { is_pending self.old ≡ false }
-        requires inputs { (A : Dataset) × ((B : Dataset) × ((C : Dataset) × ((D : Dataset) × MayBecome (StandsFor self.old) (Takes self.old) (fits self.old) left.now right.now A B C D))) }
-        ensures changes { OnOk result ((A B C D : Dataset) → MayBecome (StandsFor self.old) (Takes self.old) (fits self.old) left.now right.now A B C D → IsChangeList out.new.items (output self.old A B) (output self.old C D)) }
-        ensures stands { OnOk result ((A B C D : Dataset) → MayBecome (StandsFor self.old) (Takes self.old) (fits self.old) left.now right.now A B C D → StandsPending self.new C D) }
-        ensures pending { OnOk result (is_pending self.new ≡ true) }
-        ensures fits { OnOk result ((A B C D : Dataset) → MayBecome (StandsFor self.old) (Takes self.old) (fits self.old) left.now right.now A B C D → fits self.old C D ≡ true) }
-        ensures range { IfErr result (λ e. e ≡ fault.Range → (A B C D : Dataset) → MayBecome (StandsFor self.old) (Takes self.old) (fits self.old) left.now right.now A B C D → fits self.old C D ≡ false) }
-        ensures err { OnErr result ((is_pending self.new ≡ false) × (out.new.items ≡ [])) }
-        ensures committed { (A B : Dataset) → StandsFor self.old A B → StandsFor self.new A B }
-        ensures same_output { output self.new ≡ output self.old }
-        ensures same_fits { fits self.new ≡ fits self.old }
-        ensures same_takes { (A B : Dataset) → Takes self.old A B ↔ Takes self.new A B };
+        requires idle { (standing self.old).is_pending ≡ false }
+        requires inputs { HasInputs (standing self.old) left.now right.now }
+        ensures ok { OnOk result (AnswersChanges (standing self.old) (standing self.new) left.now right.now out.new.items) }
+        ensures range { IfErr result (λ e. e ≡ fault.Range → ChangesMisfit (standing self.old) left.now right.now) }
+        ensures err { OnErr result (((standing self.new).is_pending ≡ false) × (out.new.items ≡ [])) }
+        ensures committed { KeepsStanding (standing self.old) (standing self.new) }
+        ensures same { (standing self.new).meaning ≡ (standing self.old).meaning };
 
     /// Makes the pending inputs the committed ones.
     fn commit(&mut self)
-        ensures idle { is_pending self.new ≡ false }
-        ensures committed { is_pending self.old ≡ true → (A B : Dataset) → StandsPending self.old A B → StandsFor self.new A B }
-        ensures unchanged { is_pending self.old ≡ false → (A B : Dataset) → StandsFor self.old A B → StandsFor self.new A B }
-        ensures same_output { output self.new ≡ output self.old }
-        ensures same_fits { fits self.new ≡ fits self.old }
-        ensures same_takes { (A B : Dataset) → Takes self.old A B ↔ Takes self.new A B };
+        ensures idle { (standing self.new).is_pending ≡ false }
+        ensures committed { CommitsStanding (standing self.old) (standing self.new) }
+        ensures unchanged { (standing self.old).is_pending ≡ false → KeepsStanding (standing self.old) (standing self.new) }
+        ensures same { (standing self.new).meaning ≡ (standing self.old).meaning };
 
     /// Drops the pending inputs.
     fn abort(&mut self)
-        ensures idle { is_pending self.new ≡ false }
-        ensures committed { (A B : Dataset) → StandsFor self.old A B → StandsFor self.new A B }
-        ensures same_output { output self.new ≡ output self.old }
-        ensures same_fits { fits self.new ≡ fits self.old }
-        ensures same_takes { (A B : Dataset) → Takes self.old A B ↔ Takes self.new A B };
+        ensures idle { (standing self.new).is_pending ≡ false }
+        ensures committed { KeepsStanding (standing self.old) (standing self.new) }
+        ensures same { (standing self.new).meaning ≡ (standing self.old).meaning };
 
     /// Where the inputs fit, the output's weights are in range.
-    ghost output_in_range: { (it : Self) (A B : Dataset) → AllInRange A → AllInRange B → fits it A B ≡ true → AllInRange (output it A B) };
+    ghost in_range: { (it : Self) → KeepsRange (standing it).meaning };
 }

@@ -63,7 +63,7 @@ pub trait PartOp {
     ghost fits: { Self → Dataset → Dataset → Bool };
 
     /// The operator takes these inputs.
-    ghost Takes: { Self → Dataset → Dataset → Type 0 };
+    ghost takes: { Self → Dataset → Dataset → Bool };
 
     /// It takes this row on this side.
     ghost TakesRow: { Self → Side → Row → Type 0 };
@@ -100,17 +100,17 @@ pub trait PartOp {
     ghost outputs_are_owned: { (op : Self) (k : Row) (A B : Dataset) (z : Row) → TakesPart op k A B → at (outputs op k A B) z ≢ zero_ratio → owner op z ≡ k };
 
     /// All parts' outputs together are the operator's.
-    ghost together: { (op : Self) (A B : Dataset) (z : Row) → Takes op A B → at (output op A B) z ≡ at (outputs op (owner op z) (part_of (keys op Left) (owner op z) A) (part_of (keys op Right) (owner op z) B)) z };
+    ghost together: { (op : Self) (A B : Dataset) (z : Row) → takes op A B ≡ true → at (output op A B) z ≡ at (outputs op (owner op z) (part_of (keys op Left) (owner op z) A) (part_of (keys op Right) (owner op z) B)) z };
 
     /// Inputs with weights in range fit the operator just where each factored weight is in range and each part fits.
-    ghost fits_by_part: { (op : Self) (A B : Dataset) → Takes op A B → AllInRange A → AllInRange B → (fits op A B ≡ true) ↔ (FactoredInRange (keys op Left) A × FactoredInRange (keys op Right) B × ((k : Row) → part_fits op k (part_of (keys op Left) k A) (part_of (keys op Right) k B) ≡ true)) };
+    ghost fits_by_part: { (op : Self) (A B : Dataset) → takes op A B ≡ true → AllInRange A → AllInRange B → (fits op A B ≡ true) ↔ (FactoredInRange (keys op Left) A × FactoredInRange (keys op Right) B × ((k : Row) → part_fits op k (part_of (keys op Left) k A) (part_of (keys op Right) k B) ≡ true)) };
 
     /// Where the inputs fit, the output's weights are in range.
     ghost output_in_range: { (op : Self) (A B : Dataset) → AllInRange A → AllInRange B → fits op A B ≡ true → AllInRange (output op A B) };
 
     /// It takes the rows of inputs that it takes.
-    ghost takes_rows: { (op : Self) (A B : Dataset) (x : Row) → Takes op A B → (at A x ≢ zero_ratio → TakesRow op Left x) × (at B x ≢ zero_ratio → TakesRow op Right x) };
+    ghost takes_rows: { (op : Self) (A B : Dataset) (x : Row) → takes op A B ≡ true → (at A x ≢ zero_ratio → TakesRow op Left x) × (at B x ≢ zero_ratio → TakesRow op Right x) };
 
     /// It takes the parts of inputs that it takes.
-    ghost takes_parts: { (op : Self) (A B : Dataset) (k : Row) → Takes op A B → TakesPart op k (part_of (keys op Left) k A) (part_of (keys op Right) k B) };
+    ghost takes_parts: { (op : Self) (A B : Dataset) (k : Row) → takes op A B ≡ true → TakesPart op k (part_of (keys op Left) k A) (part_of (keys op Right) k B) };
 }

@@ -1,11 +1,11 @@
 use Rattle.std.proofs.Common.{◌≡◌, ◌<◌, false, get_or, length, arith}
 use Rattle.dataflow.specs.Standing.{CommitsInputs}
-use Rattle.dataflow.proofs.Pairs.{MeansSame, Passed-more, Passed-next, mean_same, of_each_new, pairs_at}
+use Rattle.dataflow.proofs.Pairs.{Passed-more, Passed-next, of_each_new, pairs_at, same_meanings}
 use Rattle.dataflow.proofs.passes.commit_all.Goals as goal
 
 pub loop-i-preserved : goal.loop-i-preserved
 loop-i-preserved g c =
-    let op = g.N.Operator in
+    let of = g.N.Operator.standing in
     let old = c.args.nodes.now in
     let new = c.loop-i.nodes in
     let i = c.loop-i.i in
@@ -13,16 +13,15 @@ loop-i-preserved g c =
     let m = c.commit.new.self in
     let e = c.commit.ensures in
     let within : i < length new = omega arith in
-    let same : MeansSame op n m = record { output = e.same_output; fits = e.same_fits; takes = e.same_takes } in
-    Passed-more (λ _ n m. (op.is_pending m ≡ false) × CommitsInputs op n m × MeansSame op n m) old new i n m within
-    (Passed-next old new i c.index-nodes-i.result c.loop-i.invariant within) (e.idle, (e.committed, e.unchanged), same) c.loop-i.invariant
+    Passed-more (λ _ n m. ((of m).is_pending ≡ false) × CommitsInputs of n m × ((of m).meaning ≡ (of n).meaning)) old new i n m within
+    (Passed-next old new i c.index-nodes-i.result c.loop-i.invariant within) (e.idle, (e.committed, e.unchanged), e.same) c.loop-i.invariant
 
 pub returns-clause-idle : goal.returns-clause-idle
-returns-clause-idle g c = λ i m f. of_each_new (λ _ m. g.N.Operator.is_pending m ≡ false) c.args.nodes.now c.loop-i.nodes c.loop-i.i (omega arith) (λ j n m p. p.0) c.loop-i.invariant i m f
+returns-clause-idle g c = λ i m f. of_each_new (λ _ m. (g.N.Operator.standing m).is_pending ≡ false) c.args.nodes.now c.loop-i.nodes c.loop-i.i (omega arith) (λ j n m p. p.0) c.loop-i.invariant i m f
 
 pub returns-clause-committed : goal.returns-clause-committed
 returns-clause-committed g c = λ i n m e f. (pairs_at c.args.nodes.now c.loop-i.nodes c.loop-i.i (omega arith) c.loop-i.invariant i n m e f).1
 
 pub returns-clause-same : goal.returns-clause-same
 returns-clause-same g c =
-    mean_same g.N.Operator c.args.nodes.now c.loop-i.nodes c.loop-i.invariant.size (λ i n m e f. (pairs_at c.args.nodes.now c.loop-i.nodes c.loop-i.i (omega arith) c.loop-i.invariant i n m e f).2)
+    same_meanings g.N.Operator.standing c.args.nodes.now c.loop-i.nodes c.loop-i.invariant.size (λ i n m e f. (pairs_at c.args.nodes.now c.loop-i.nodes c.loop-i.i (omega arith) c.loop-i.invariant i n m e f).2)

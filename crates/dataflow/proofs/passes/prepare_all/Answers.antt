@@ -1,10 +1,7 @@
-use Rattle.dataflow.proofs.Pairs.{KeepsInputs-twice, MeanSame-twice}
+use Rattle.dataflow.proofs.Pairs.{KeepsInputs-twice}
 use Rattle.dataflow.proofs.passes.prepare_all.Goals as goal
 
 pub returns-in-Err-clause-committed : goal.returns-in-Err-clause-committed
 returns-in-Err-clause-committed g c =
     let e = c.prepare_each.ensures in
-    KeepsInputs-twice g.N.Operator c.args.nodes.now c.prepare_each.new.nodes c.abort_all.new.nodes e.same e.committed c.abort_all.ensures.committed
-
-pub returns-in-Err-clause-same : goal.returns-in-Err-clause-same
-returns-in-Err-clause-same g c = MeanSame-twice g.N.Operator c.args.nodes.now c.prepare_each.new.nodes c.abort_all.new.nodes c.prepare_each.ensures.same c.abort_all.ensures.same
+    KeepsInputs-twice g.N.Operator.standing c.args.nodes.now c.prepare_each.new.nodes c.abort_all.new.nodes e.same e.committed c.abort_all.ensures.committed

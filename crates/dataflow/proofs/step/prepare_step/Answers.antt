@@ -9,7 +9,7 @@ prepare-requires-clause-inputs g c =
     let wires = c.args.wires.now in
     let sources : List (List Change) = map (λ s. s.now) c.args.sources.now in
     let lists : List (List Change) = map (λ l. l.items) c.args.lists.now in
-    some_inputs g.N.Operator c.args.node.now wires sources lists (wire_at wires c.args.at) c.in-Of.left c.in-Of.right c.in-Of.is
+    some_inputs (g.N.Operator.standing c.args.node.now) wires sources lists (wire_at wires c.args.at) c.in-Of.left c.in-Of.right c.in-Of.is
     c.changes_at-left_list.result.now c.right_changes-right_list.result.now c.changes_at-left_list.ensures c.right_changes-right_list.ensures c.requires.inputs
 
 pub returns-in-Of-clause-range : goal.returns-in-Of-clause-range
@@ -17,5 +17,5 @@ returns-in-Of-clause-range g c =
     let wires = c.args.wires.now in
     let sources : List (List Change) = map (λ s. s.now) c.args.sources.now in
     let lists : List (List Change) = map (λ l. l.items) c.args.lists.now in
-    range_of g.N.Operator c.args.node.now wires sources lists (wire_at wires c.args.at) c.in-Of.left c.in-Of.right c.in-Of.is
+    range_of (g.N.Operator.standing c.args.node.now) wires sources lists (wire_at wires c.args.at) c.in-Of.left c.in-Of.right c.in-Of.is
     c.changes_at-left_list.result.now c.right_changes-right_list.result.now c.changes_at-left_list.ensures c.right_changes-right_list.ensures c.prepare.result c.prepare.ensures.range

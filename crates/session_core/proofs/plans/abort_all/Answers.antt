@@ -1,4 +1,6 @@
-use Rattle.std.proofs.Common.{◌<◌, ap, arith, length, get_or}
+use Rattle.std.proofs.Common.{◌≡◌, ◌<◌, ◌∙◌, List, ap, arith, length, get_or, subst, sym, take}
+use Rattle.plan_model.specs.declared.source_types.SourceType.{SourceType}
+use Rattle.session_core.specs.Flow.{StandsFor}
 use Rattle.session_core.specs.Planned.{Holds, IsSettled, plan_state}
 use Rattle.session_core.proofs.Outcomes.{get_or-default}
 use Rattle.session_core.proofs.PlanLoops.{TurnedBefore-more, all_turned}
@@ -16,7 +18,16 @@ loop-planned-preserved c =
     let p = get_or plans at item in
     let h = c.loop-planned.invariant.after types F G all at item (omega arith) lt in
     record {
-      holds = record { graph = c.abort.ensures.same p.plan types h.graph; stands = c.abort.ensures.committed p.plan types F h.stands; cols = h.cols };
+      holds = record {
+        built = h.built;
+        accepted = h.accepted;
+        fits = h.fits;
+        size = h.size;
+        same = c.abort.ensures.same.0 ∙ h.same;
+        first = subst (λ (ts : List SourceType). take (length ts) types ≡ ts) (sym c.abort.ensures.same.1) h.first;
+        stands = subst (λ (ts : List SourceType). StandsFor c.abort.new.self (take (length ts) F)) (sym c.abort.ensures.same.1) (c.abort.ensures.committed (take (length p.graph.types) F) h.stands);
+        cols = h.cols;
+      };
       idle = c.abort.ensures.idle;
     })
 

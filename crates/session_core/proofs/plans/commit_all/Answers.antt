@@ -1,6 +1,9 @@
-use Rattle.std.proofs.Common.{◌<◌, ap, arith, length, get_or}
+use Rattle.std.proofs.Common.{◌≡◌, ◌<◌, ◌∙◌, List, ap, arith, length, get_or, subst, sym, take}
+use Rattle.plan_model.specs.declared.source_types.SourceType.{SourceType}
+use Rattle.session_core.specs.Flow.{StandsFor}
 use Rattle.session_core.specs.Planned.{IsPrepared, IsSettled, plan_state}
 use Rattle.session_core.proofs.Outcomes.{get_or-default}
+use Rattle.session_core.proofs.Becoming.{committed_becomes}
 use Rattle.session_core.proofs.PlanLoops.{TurnedBefore-more, all_turned}
 use Rattle.session_core.proofs.plans.commit_all.Goals as goal
 
@@ -16,7 +19,17 @@ loop-planned-preserved c =
     let p = get_or plans at item in
     let h = c.loop-planned.invariant.after types F G all at item (omega arith) lt in
     record {
-      holds = record { graph = c.commit.ensures.same p.plan types h.holds.graph; stands = c.commit.ensures.committed p.plan types G h.pending; cols = h.holds.cols };
+      holds = record {
+        built = h.holds.built;
+        accepted = h.holds.accepted;
+        fits = h.fits;
+        size = h.size;
+        same = c.commit.ensures.same.0 ∙ h.holds.same;
+        first = subst (λ (ts : List SourceType). take (length ts) types ≡ ts) (sym c.commit.ensures.same.1) h.holds.first;
+        stands = subst (λ (ts : List SourceType). StandsFor c.commit.new.self (take (length ts) G)) (sym c.commit.ensures.same.1)
+            (committed_becomes p.graph c.commit.new.self (take (length p.graph.types) G) h.becomes c.commit.ensures.committed c.commit.ensures.unchanged);
+        cols = h.holds.cols;
+      };
       idle = c.commit.ensures.idle;
     })
 

@@ -2,7 +2,7 @@ use Rattle.std.specs.Prelude.{is_some}
 use Rattle.std.proofs.Common.{ap, sym, ◌∙◌}
 use Rattle.record_text.specs.Names.{name_eq}
 use Rattle.plan_model.specs.declared.source_types.SourceType.{SourceType}
-use Rattle.plan_checker.proofs.Positions.{is_some-position}
+use Rattle.plan_model.proofs.Positions.{is_some-position}
 use Rattle.set_tests.proofs.graphs.declare.Goals as goal
 
 pub push-requires : goal.push-requires

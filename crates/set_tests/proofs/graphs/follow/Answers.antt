@@ -1,7 +1,9 @@
 -- The graph follows the source to which rows are added.
-use Rattle.std.proofs.Common.{subst, sym}
+use Rattle.std.proofs.Common.{List, subst, sym, ◌∙◌}
+use Rattle.plan_model.specs.declared.source_types.SourceType.{SourceType}
 use Rattle.flow_graph.specs.Fresh.{committed_family}
-use Rattle.flow_graph.specs.PlanGraphs.{StandsFor}
+use Rattle.flow_graph.specs.Graphs.{StandsFor}
+use Rattle.flow_graph.specs.Plans.{TurnsInto}
 use Rattle.set_tests.specs.Trials.{put_at}
 use Rattle.set_tests.proofs.graphs.follow.Goals as goal
 
@@ -10,20 +12,19 @@ prepare-requires-clause-inputs g c =
     let trial = c.args.trial.now in
     let running = c.requires.running in
     let F = committed_family trial.sources in
-    (running.plan, (trial.types, (F, (put_at F c.args.at c.args.changes.now, record { of_plan = running.of_plan; stands = running.stands; turns = c.requires.changes.turns }))))
+    let G = put_at F c.args.at c.args.changes.now in
+    (F, (G, (running.stands, subst (λ (types : List SourceType). TurnsInto types c.args.at c.args.changes.now F G) (sym running.of_types) c.requires.changes.turns)))
 
 pub returns : goal.returns
 returns g c =
     let trial = c.args.trial.now in
     let running = c.requires.running in
     let F = committed_family trial.sources in
-    let plan = running.plan in
+    let G = put_at F c.args.at c.args.changes.now in
+    let turns = subst (λ (types : List SourceType). TurnsInto types c.args.at c.args.changes.now F G) (sym running.of_types) c.requires.changes.turns in
     record {
-      plan = plan;
-      of_plan = c.commit.ensures.same plan trial.types (c.prepare.ensures.same plan trial.types running.of_plan);
-      stands = subst (λ G. StandsFor c.commit.new.self plan trial.types G) (sym c.in_ok-put.ensures.put)
-          (c.commit.ensures.committed plan trial.types (put_at F c.args.at c.args.changes.now)
-          (c.in-Ok.ensures.pending plan trial.types F (put_at F c.args.at c.args.changes.now) (record { of_plan = running.of_plan; stands = running.stands; turns = c.requires.changes.turns })));
+      of_types = c.commit.ensures.same.1 ∙ c.prepare.ensures.same.1 ∙ running.of_types;
+      stands = subst (StandsFor c.commit.new.self) (sym c.in_ok-put.ensures.put) (c.commit.ensures.committed G (c.in-Ok.ensures.pending F G running.stands turns));
       idle = c.commit.ensures.idle;
       settled = c.in_ok-put.ensures.settled;
     }

@@ -7,8 +7,26 @@ prepare-requires-clause-inputs g c = rw c.in-Filter.is at c.requires.inputs
 pub prepare-requires-in-Select-clause-inputs : goal.prepare-requires-in-Select-clause-inputs
 prepare-requires-in-Select-clause-inputs g c = rw c.in-Select.is at c.requires.inputs
 
-pub returns-in-Filter-clause-changes : goal.returns-in-Filter-clause-changes
-returns-in-Filter-clause-changes g c = rw c.in-Filter.is c.prepare.ensures.changes
+pub prepare-requires-in-Many-clause-inputs : goal.prepare-requires-in-Many-clause-inputs
+prepare-requires-in-Many-clause-inputs g c = rw c.in-Many.is at c.requires.inputs
 
-pub returns-in-Select-clause-changes : goal.returns-in-Select-clause-changes
-returns-in-Select-clause-changes g c = rw c.in-Select.is c.prepare-in-Select.ensures.changes
+pub prepare-requires-in-Shave-clause-inputs : goal.prepare-requires-in-Shave-clause-inputs
+prepare-requires-in-Shave-clause-inputs g c = rw c.in-Shave.is at c.requires.inputs
+
+pub prepare-requires-in-Set-clause-inputs : goal.prepare-requires-in-Set-clause-inputs
+prepare-requires-in-Set-clause-inputs g c = rw c.in-Set.is at c.requires.inputs
+
+pub returns-in-Filter-clause-ok : goal.returns-in-Filter-clause-ok
+returns-in-Filter-clause-ok g c = rw c.in-Filter.is c.prepare.ensures.ok
+
+pub returns-in-Select-clause-ok : goal.returns-in-Select-clause-ok
+returns-in-Select-clause-ok g c = rw c.in-Select.is c.prepare-in-Select.ensures.ok
+
+pub returns-in-Many-clause-ok : goal.returns-in-Many-clause-ok
+returns-in-Many-clause-ok g c = rw c.in-Many.is c.prepare-in-Many.ensures.ok
+
+pub returns-in-Shave-clause-ok : goal.returns-in-Shave-clause-ok
+returns-in-Shave-clause-ok g c = rw c.in-Shave.is c.prepare-in-Shave.ensures.ok
+
+pub returns-in-Set-clause-ok : goal.returns-in-Set-clause-ok
+returns-in-Set-clause-ok g c = rw c.in-Set.is c.prepare-in-Set.ensures.ok

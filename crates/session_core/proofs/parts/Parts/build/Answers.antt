@@ -1,24 +1,31 @@
-use Rattle.std.proofs.Common.{◌≡◌, ◌∙◌, ◌++◌, ◌+◌, ◌∷◌, [], Bool, IfOk, List, Result, ap, ap₂, arith, if◌then◌else◌, is_ok, refl, subst, sym, vec_len}
+use Rattle.std.proofs.Common.{◌≡◌, ◌∙◌, ◌++◌, ◌+◌, ◌∷◌, [], Bool, IfOk, List, Result, ap, ap₂, arith, if◌then◌else◌, is_ok, length, refl, subst, sym, take, vec_len}
+use Rattle.std.proofs.lemmas.List.{take_all}
+use lib.ListN.{length-map}
 use Rattle.std.specs.declared.alloc.AllocFailed.{AllocFailed}
 use Rattle.indexmap.specs.IndexSet.{insert_key}
 use Rattle.plan_checker.specs.Checked.{CheckedPlan}
 use Rattle.plan_model.specs.Evaluation.{Family}
 use Rattle.plan_model.specs.Fits.{misfit}
 use Rattle.plan_model.specs.Types.{Keeps}
+use Rattle.plan_model.specs.declared.step.Step.{Step}
 use Rattle.plan_model.specs.declared.source_types.SourceType.{SourceType}
 use Rattle.record_text.specs.Names.{name_eq}
 use Rattle.record_text.specs.declared.name.Name.{Name}
 use Rattle.messages.specs.declared.refusal.Refusal.TheVariants as refusal
-use Rattle.session_core.specs.Flow.{IsGraphOf, StandsFor, committed_family}
+use Rattle.session_core.specs.Flow.{StandsFor, committed_family}
 use Rattle.session_core.specs.Machine.{planned}
 use Rattle.session_core.specs.Parts.{state_of}
-use Rattle.session_core.specs.State.{family_of, new_plan, types_of}
+use Rattle.session_core.specs.State.{SourceState, family_of, new_plan, type_of, types_of}
 use Rattle.session_core.specs.declared.parts.Parts.{Parts}
 use Rattle.session_core.specs.declared.plans.Planned.{Planned}
+use Rattle.session_core.proofs.Buildable.{have_nodes-built}
 use Rattle.session_core.proofs.NewPlans.{Does-grown, length-checked, planned_unfit}
 use Rattle.session_core.proofs.Outcomes.{Does-refused}
 use Rattle.session_core.proofs.Typed.{Keeps-sound}
 use Rattle.session_core.proofs.parts.Parts.build.Goals as goal
+
+pub build-requires-clause-nodes : goal.build-requires-clause-nodes
+build-requires-clause-nodes g c = have_nodes-built c.args.plan c.requires.built
 
 pub build-requires-clause-keeps : goal.build-requires-clause-keeps
 build-requires-clause-keeps g c =
@@ -46,10 +53,11 @@ returns g c =
     let checked = c.args.checked.now in
     let added : Planned = record { name = c.args.name; plan = c.args.plan; graph = c.in-Ok.graph; cols = c.columns-cols.result } in
     let new : Parts = record old { plan_names = c.insert.new.self; plans = c.push.new.self } in
-    let graph = subst (λ (types : List SourceType). IsGraphOf added.graph added.plan types) c.types-types.ensures c.in-Ok.ensures.graph in
-    let stands =
-    subst (λ (types : List SourceType). StandsFor added.graph added.plan types (family_of sources)) c.types-types.ensures
-    (subst (λ (F : Family). StandsFor added.graph added.plan c.types-types.result.now F) c.sets-sets.ensures.committed c.in-Ok.ensures.stands) in
+    let types = types_of sources in
+    let F = family_of sources in
+    let is : added.graph.types ≡ types = c.in-Ok.ensures.graph.1 ∙ c.types-types.ensures in
+    let size : length F ≡ length types = length-map sources (λ (source : SourceState). source.rows) ∙ sym (length-map sources type_of) in
+    let stands : StandsFor added.graph F = subst (StandsFor added.graph) c.sets-sets.ensures.committed c.in-Ok.ensures.stands in
     let items =
     c.push.ensures.items
     ∙ ap (λ (r : Result (Unit {0}) (AllocFailed Planned)). if is_ok r then old.plans.items ++ added ∷ [] else old.plans.items) c.unwrap-2.ensures in
@@ -63,6 +71,15 @@ returns g c =
       names_room = omega (arith, c.requires.settled.kept.names_room, c.insert.ensures.spare, c.push.ensures.len, long);
       plans_room = omega (arith, c.requires.settled.kept.plans_room, c.push.ensures.capacity);
     }) c.requires.settled c.requires.new (record {
-      holds = record { graph = graph; stands = stands; cols = c.columns-cols.ensures ∙ ap (λ (k : CheckedPlan). k.columns) c.requires.checked.1 };
+      holds = record {
+        built = c.requires.built;
+        accepted = c.requires.checked.0;
+        fits = ap₂ (λ (plan : List Step) (ts : List SourceType). misfit plan ts F) (sym c.in-Ok.ensures.graph.0) (sym is) ∙ stands.plan.family.fits;
+        size = size;
+        same = c.in-Ok.ensures.graph.0;
+        first = subst (λ (ts : List SourceType). take (length ts) types ≡ ts) (sym is) (take_all (length types) types (omega arith));
+        stands = subst (λ (ts : List SourceType). StandsFor added.graph (take (length ts) F)) (sym is) (subst (StandsFor added.graph) (sym (take_all (length types) F (omega arith))) stands);
+        cols = c.columns-cols.ensures ∙ ap (λ (k : CheckedPlan). k.columns) c.requires.checked.1;
+      };
       idle = c.in-Ok.ensures.idle;
     }) checked c.columns-cols.result c.in_ok-uses.uses c.args.reply.now.items c.write_reply.new.into.items c.requires.checked c.columns-cols.ensures c.in_ok-uses.ensures c.in_ok-write_reply.ensures.ok

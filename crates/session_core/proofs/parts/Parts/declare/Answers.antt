@@ -1,8 +1,10 @@
-use Rattle.std.proofs.Common.{◌∙◌, sym, arith}
+use Rattle.std.proofs.Common.{◌≡◌, Err, refl, subst, ◌∙◌, sym, arith}
+use Rattle.std.proofs.lemmas.Grind.{common_steps}
 use Rattle.messages.specs.declared.refusal.Refusal.TheVariants as refusal
 use Rattle.messages.specs.declared.thing.Thing.TheVariants as thing
 use Rattle.session_core.specs.Machine.{declared}
-use Rattle.session_core.specs.Parts.{state_of}
+use Rattle.session_core.specs.Held.{HeldSources}
+use Rattle.session_core.specs.Parts.{Does, state_of}
 use Rattle.session_core.specs.State.{new_source}
 use Rattle.session_core.proofs.Declared.{Does-declared, fresh-types}
 use Rattle.session_core.proofs.Outcomes.{Does-refused, declared_full, declared_taken, no_place_is, place_is}
@@ -35,3 +37,13 @@ returns-in-Ok c =
     Does-declared c.args.self.now c.push.new.self new c.args.reply.now.items c.write_reply.new.into.items c.requires.settled (omega (arith, c.len.ensures, c.if-len-ge-MAX_SOURCES.false)) none
     (new_is_sound c.args.name c.args.kinds c.args.signed c.args.budget c.requires.budget)
     c.in-Ok.ensures.committed c.in-Ok.ensures.pending c.in_ok-write_reply.ensures.ok
+
+pub returns-in-Err : goal.returns-in-Err
+returns-in-Err c =
+    let old = c.args.self.now in
+    let new = new_source c.args.name c.args.kinds c.args.signed c.args.budget in
+    let told : c.truncate.new.self.items ≡ c.args.reply.now.items = grind (arith, common_steps) in
+    subst
+    (λ (sources : HeldSources). Does (Err c.in-Err.e) old (declared (state_of old) new) (record old { sources = sources }) c.args.reply.now.items c.truncate.new.self.items)
+    (sym c.in-Err.ensures.err)
+    (record { settled = c.requires.settled; responds = (refl, told) })
