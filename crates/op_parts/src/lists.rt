@@ -1,8 +1,9 @@
 //! Lists of weighted rows.
-ghost use Rattle.std.specs.Prelude.{◌≡◌, ◌+◌, ◌++◌, [], ◌∷◌, OnErr, OnOk, length};
+ghost use Rattle.std.specs.Prelude.{◌≡◌, ◌+◌, [], ◌∷◌, OnErr, OnOk, length};
 ghost use Rattle.datasets.specs.Entries.{is_zero as is_zero_ratio};
 ghost use Rattle.ratios.specs.Range.{InRange};
 ghost use Rattle.weighted_set.specs.Changes.{entries_of};
+ghost use Rattle.op_parts.specs.Appended.{Appends};
 
 use frac_core::Frac;
 use record_text::Row;
@@ -29,7 +30,7 @@ pub fn is_zero(weight: Frac) -> bool
 
 /// Appends a copy of a row, with a weight.
 pub fn push_row(row: &Row, weight: Frac, into: &mut Vec<Weighted>) -> Result<(), Memory>
-    ensures ok { OnOk result (entries_of into.new.items ≡ entries_of into.old.items ++ (row.now, weight) ∷ []) }
+    ensures ok { OnOk result (Appends into.old.items ((row.now, weight) ∷ []) into.new.items) }
     ensures err { OnErr result (into.new.items ≡ into.old.items) }
 {
     let row = row.try_copy()?;
@@ -39,7 +40,7 @@ pub fn push_row(row: &Row, weight: Frac, into: &mut Vec<Weighted>) -> Result<(),
 
 /// Appends copies of the rows of a list, with their weights. After a refusal the list is as before.
 pub fn push_rows(list: &[Weighted], into: &mut Vec<Weighted>) -> Result<(), Memory>
-    ensures ok { OnOk result (entries_of into.new.items ≡ entries_of into.old.items ++ entries_of list.now) }
+    ensures ok { OnOk result (Appends into.old.items (entries_of list.now) into.new.items) }
     ensures err { OnErr result (into.new.items ≡ into.old.items) }
 {
     let before = into.len();

@@ -6,6 +6,7 @@ use Rattle.datasets.specs.Dataset.{Dataset, empty}
 use Rattle.datasets.specs.Entries.{Row}
 use Rattle.operators.specs.InRange.{shave_in_range, weights_in_range}
 use Rattle.operators.specs.Operators.{shaved}
+use Rattle.plan_model.specs.Evaluation.{pieces}
 use Rattle.plan_model.specs.declared.step.Run.{Run}
 use Rattle.weighted_set.specs.declared.part_op.Side.{Side}
 use Rattle.weighted_set.specs.declared.part_op.Side.TheVariants.{Left, Right}
@@ -28,3 +29,11 @@ without_last z = take (length z - 1) z
 -- what is left of a weight before each piece, where that is above 0, and each output weight are in range
 abbrev pub shave_fits : List Ratio → Dataset → Bool
 shave_fits fs A = shave_in_range fs A && weights_in_range (shaved fs A)
+
+-- a weight at a row, cut into the pieces of runs
+abbrev pub shaved_row : List Run → Row → Ratio → Dataset
+shaved_row runs x w = shaved (pieces runs) (one_row x w)
+
+-- what is left of it before each piece, where that is above 0, and each output weight are in range
+abbrev pub row_fits : List Run → Row → Ratio → Bool
+row_fits runs x w = shave_fits (pieces runs) (one_row x w)

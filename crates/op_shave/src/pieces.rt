@@ -1,17 +1,15 @@
 //! The pieces of a weight, one after another.
-ghost use Rattle.std.specs.Prelude.{◌≡◌, ◌+◌, ◌≤◌, ◌<◌, ◌++◌, [], ◌∷◌, IfErr, IfOk, IsTrue, OnOk, false, length, replicate, true};
+ghost use Rattle.std.specs.Prelude.{◌≡◌, ◌+◌, ◌≤◌, ◌<◌, [], ◌∷◌, IfErr, IfOk, IsTrue, OnOk, false, length, true};
 ghost use Rattle.std.specs.List.{list_all};
-ghost use Rattle.operators.specs.Operators.{numbered, shaved};
-ghost use Rattle.plan_model.specs.Evaluation.{pieces};
+ghost use Rattle.operators.specs.Operators.{numbered};
 ghost use Rattle.plan_model.specs.Limits.{is_run};
 ghost use Rattle.plan_model.specs.Pieces.{piece_count};
 ghost use Rattle.ratios.specs.Range.{InRange, checked};
 ghost use Rattle.ratios.specs.Ratio.{is_below, zero_ratio};
-ghost use Rattle.weighted_set.specs.Changes.{entries_of};
 ghost use Rattle.weighted_set.specs.declared.part_op.OpFault.TheVariants as fault;
-ghost use Rattle.op_parts.specs.OneRow.{one_row};
-ghost use Rattle.op_shave.specs.Shave.{shave_fits};
-ghost use Rattle.op_shave.specs.Shavings.{AreShaved, left_in_range, left_of};
+ghost use Rattle.op_parts.specs.Appended.{Appends};
+ghost use Rattle.op_shave.specs.Shave.{row_fits, shaved_row};
+ghost use Rattle.op_shave.specs.Shavings.{RunIsShaved, left_in_range, left_of, run_pieces};
 
 use frac_core::Frac;
 use plan_model::{Run, Runs};
@@ -59,7 +57,7 @@ fn numbered(alloc: Global, row: &Row, place: u32) -> Result<Row, Memory>
 // Appends the row followed by a place, with the weight of a piece.
 fn push_piece(row: &Row, place: u32, weight: Frac, into: &mut Vec<Weighted>) -> Result<(), Memory>
     requires { length row.now < 16 }
-    ensures ok { OnOk result (entries_of into.new.items ≡ entries_of into.old.items ++ (numbered (row.now, place), weight) ∷ []) }
+    ensures ok { OnOk result (Appends into.old.items ((numbered (row.now, place), weight) ∷ []) into.new.items) }
     ensures in_range { InRange weight }
 {
     // Tells that the weight is in range.
@@ -80,8 +78,8 @@ fn push_run(
 ) -> Result<Option<Frac>, OpFault>
     requires narrow { length row.now < 16 }
     requires few { place + run.times ≤ 4096 }
-    ensures ok { IfOk result (λ rest. AreShaved row.now place (replicate run.times run.weight) weight (entries_of into.old.items) (entries_of into.new.items) rest) }
-    ensures range { IfErr result (λ e. e ≡ fault.Range → left_in_range (replicate run.times run.weight) weight ≡ false) }
+    ensures ok { IfOk result (RunIsShaved row.now place run weight into.old.items into.new.items) }
+    ensures range { IfErr result (λ e. e ≡ fault.Range → left_in_range (run_pieces run) weight ≡ false) }
 {
     // Tells that the weight is in range.
     let _numerator = weight.numer();
@@ -109,9 +107,9 @@ pub fn push_pieces(
     requires narrow { length row.now < 16 }
     requires runs { IsTrue (list_all is_run runs.now) }
     requires few { piece_count runs.now ≤ 4096 }
-    ensures ok { OnOk result (entries_of into.new.items ≡ entries_of into.old.items ++ (shaved (pieces runs.now) (one_row row.now weight)).entries) }
-    ensures fits { OnOk result (shave_fits (pieces runs.now) (one_row row.now weight) ≡ true) }
-    ensures range { IfErr result (λ e. e ≡ fault.Range → shave_fits (pieces runs.now) (one_row row.now weight) ≡ false) }
+    ensures ok { OnOk result (Appends into.old.items (shaved_row runs.now row.now weight).entries into.new.items) }
+    ensures fits { OnOk result (row_fits runs.now row.now weight ≡ true) }
+    ensures range { IfErr result (λ e. e ≡ fault.Range → row_fits runs.now row.now weight ≡ false) }
 {
     // Tells that the weight is in range.
     let _numerator = weight.numer();
