@@ -1,42 +1,29 @@
 -- The steps that the walk gives are within the limits of plans, and of the kinds that are read.
-use Rattle.std.proofs.Common.{◌≡◌, ℕ, ◌+◌, ◌<◌, ◌≤◌, nat_lt, codes, List, [], ◌∷◌, length, true, false, if◌then◌else◌, Option, Some, None, Ok, refl, arith, IsTrue}
+use Rattle.std.proofs.Common.{◌≡◌, ℕ, ◌+◌, ◌<◌, ◌≤◌, nat_lt, codes, List, [], ◌∷◌, length, true, Ok, refl, arith, IsTrue}
 use Rattle.std.proofs.lemmas.Bool.{le-leb}
-use Rattle.std.proofs.lemmas.Option.{option_and_then_some}
 use Rattle.serde_json.specs.Data.{Data, Members}
 use Rattle.serde_json.specs.Find.{get, as_object}
 use Rattle.json_fields.specs.Walk.{each}
+use Rattle.plan_model.specs.declared.step.SetKind.{SetKind}
 use Rattle.plan_model.specs.declared.step.Step.{Step}
 use Rattle.plan_model.specs.declared.step.Step.TheVariants as step
-use Rattle.plan_model.specs.Limits.{is_step, are_steps, is_plan}
+use Rattle.plan_model.specs.Limits.{is_step, are_steps, is_plan, max_item_weight}
 use Rattle.expr_text.specs.declared.fault.Field.TheVariants as field
-use Rattle.expr_text.specs.declared.fault.Place.{Place}
-use Rattle.plan_reader.specs.declared.step.StepKind.{StepKind}
-use Rattle.plan_reader.specs.declared.step.StepKind.TheVariants as kind
-use Rattle.expr_text.specs.Fields.{place, or_shape}
-use Rattle.plan_reader.specs.Fields.{no_other, name_in, of_in, earlier, whole_of}
 use Rattle.expr_text.specs.Exprs.{expr_in, exprs_in}
-use Rattle.plan_reader.specs.Steps.{kind_of, step_fields, source_in, where_in, select_in, fields_in, step_in, is_built_step}
-use Rattle.plan_reader.specs.Plans.{is_built}
-use Rattle.json_fields.proofs.Walks.{both_steps}
+use Rattle.expr_text.specs.Fields.{place, or_shape}
 use Rattle.expr_text.proofs.Walks.{length-each}
 use Rattle.expr_text.proofs.WithinLimits.{is_expr-expr_in, are_exprs-exprs_in}
-
--- ---- fields
-
-was_there : {A : Type 0} (p : Place) (found : Option A) (x : A) → or_shape p found ≡ Ok x → found ≡ Some x
-was_there p None x e = cc
-was_there p (Some y) x e = let same : y ≡ x = cc in rw same refl
-
-earlier_is_below : (at n k : ℕ) → earlier at n ≡ Some k → nat_lt k at ≡ true
-earlier_is_below at n k e =
-    elim (nat_lt n at) as (λ b. nat_lt n at ≡ b → (if b then Some n else None) ≡ Some k → nat_lt k at ≡ true) [
-      | true ↦ λ below same. let one : n ≡ k = cc in rw (← one) below
-      | false ↦ λ not same. cc
-    ] refl e
-
-of_is_below : (at : ℕ) (d : Data) (k : ℕ) → of_in at d ≡ Ok k → nat_lt k at ≡ true
-of_is_below at d k e =
-    option_and_then_some (earlier at) (whole_of (codes "of") d) k (was_there (place at field.Of) _ k e) (λ n is below. earlier_is_below at n k below)
+use Rattle.plan_reader.specs.declared.step.StepKind.{StepKind}
+use Rattle.plan_reader.specs.declared.step.StepKind.TheVariants as kind
+use Rattle.plan_reader.specs.Fields.{no_other, name_in}
+use Rattle.plan_reader.specs.Items.{items_in}
+use Rattle.plan_reader.specs.Runs.{runs_in}
+use Rattle.plan_reader.specs.Steps.{kind_of, step_fields, of_in, left_in, right_in, over_in, source_in, where_in, select_in, many_in, shave_in, set_in, fields_in, step_in, is_built_step}
+use Rattle.plan_reader.specs.Plans.{is_built}
+use Rattle.json_fields.proofs.Walks.{both_steps}
+use Rattle.plan_reader.proofs.BuiltItems.{are_items-items_in}
+use Rattle.plan_reader.proofs.BuiltRuns.{are_runs-runs_in}
+use Rattle.plan_reader.proofs.Numbers.{earlier_in-below, whole_in-bounds}
 
 -- ---- one step
 
@@ -44,6 +31,10 @@ of_is_below at d k e =
 pub record IsGood (at : ℕ) (s : Step) : Type 0 where
   pub limits : is_step at s ≡ true
   pub built : is_built_step s ≡ true
+
+of_in-below : (at : ℕ) (d : Data) (k : ℕ) → of_in at d ≡ Ok k → nat_lt k at ≡ true
+unfolding of_in
+of_in-below at d k e = earlier_in-below (place at field.Of) (codes "of") d k e
 
 good-source_in : (at : ℕ) (d : Data) (ms : Members) (s : Step) → source_in at d ms ≡ Ok s → IsGood at s
 unfolding source_in
@@ -62,7 +53,7 @@ good-where_in at d ms s e =
     let known = both_steps (no_other at (step_fields kind.Where) ms) _ s test.2 in
     let same : step.Filter from.0 test.0 ≡ s = (let last = known.2 in cc) in
     rw (← same) (record {
-      limits = rw (of_is_below at d from.0 from.1, is_expr-expr_in (place at field.If) found.0 test.0 test.1) refl;
+      limits = rw (of_in-below at d from.0 from.1, is_expr-expr_in (place at field.If) found.0 test.0 test.1) refl;
       built = refl;
     })
 
@@ -74,7 +65,53 @@ good-select_in at d ms s e =
     let known = both_steps (no_other at (step_fields kind.Select) ms) _ s row.2 in
     let same : step.Select from.0 row.0 ≡ s = (let last = known.2 in cc) in
     rw (← same) (record {
-      limits = rw (of_is_below at d from.0 from.1, are_exprs-exprs_in (place at field.Row) (get (codes "row") d) row.0 row.1) refl;
+      limits = rw (of_in-below at d from.0 from.1, are_exprs-exprs_in (place at field.Row) (get (codes "row") d) row.0 row.1) refl;
+      built = refl;
+    })
+
+good-many_in : (at : ℕ) (d : Data) (ms : Members) (s : Step) → many_in at d ms ≡ Ok s → IsGood at s
+unfolding many_in over_in
+good-many_in at d ms s e =
+    let from = both_steps (of_in at d) _ s e in
+    let spread = both_steps (over_in at d) _ s from.2 in
+    let items = both_steps (items_in (place at field.Items) (get (codes "items") d)) _ s spread.2 in
+    let known = both_steps (no_other at (step_fields kind.Many) ms) _ s items.2 in
+    let same : step.Many from.0 spread.0 items.0 ≡ s = (let last = known.2 in cc) in
+    let bounds = whole_in-bounds (place at field.Over) (codes "over") 1 max_item_weight d spread.0 spread.1 in
+    rw (← same) (record {
+      limits = rw (
+        of_in-below at d from.0 from.1,
+        bounds.0,
+        bounds.1,
+        are_items-items_in (place at field.Items) (get (codes "items") d) items.0 items.1,
+      ) refl;
+      built = refl;
+    })
+
+good-shave_in : (at : ℕ) (d : Data) (ms : Members) (s : Step) → shave_in at d ms ≡ Ok s → IsGood at s
+unfolding shave_in
+good-shave_in at d ms s e =
+    let from = both_steps (of_in at d) _ s e in
+    let runs = both_steps (runs_in (place at field.Runs) (get (codes "runs") d)) _ s from.2 in
+    let known = both_steps (no_other at (step_fields kind.Shave) ms) _ s runs.2 in
+    let same : step.Shave from.0 runs.0 ≡ s = (let last = known.2 in cc) in
+    rw (← same) (record {
+      limits = rw (of_in-below at d from.0 from.1, are_runs-runs_in (place at field.Runs) (get (codes "runs") d) runs.0 runs.1) refl;
+      built = refl;
+    })
+
+good-set_in : (which : SetKind) (at : ℕ) (d : Data) (ms : Members) (s : Step) → set_in which at d ms ≡ Ok s → IsGood at s
+unfolding set_in left_in right_in
+good-set_in which at d ms s e =
+    let left = both_steps (left_in at d) _ s e in
+    let right = both_steps (right_in at d) _ s left.2 in
+    let known = both_steps (no_other at (step_fields (kind.Set which)) ms) _ s right.2 in
+    let same : step.Set which left.0 right.0 ≡ s = (let last = known.2 in cc) in
+    rw (← same) (record {
+      limits = rw (
+        earlier_in-below (place at field.Left) (codes "left") d left.0 left.1,
+        earlier_in-below (place at field.Right) (codes "right") d right.0 right.1,
+      ) refl;
       built = refl;
     })
 
@@ -82,6 +119,9 @@ good-fields_in : (at : ℕ) (d : Data) (ms : Members) (k : StepKind) (s : Step) 
 good-fields_in at d ms kind.Source s e = good-source_in at d ms s e
 good-fields_in at d ms kind.Where s e = good-where_in at d ms s e
 good-fields_in at d ms kind.Select s e = good-select_in at d ms s e
+good-fields_in at d ms kind.Many s e = good-many_in at d ms s e
+good-fields_in at d ms kind.Shave s e = good-shave_in at d ms s e
+good-fields_in at d ms (kind.Set which) s e = good-set_in which at d ms s e
 
 good-step_in : (at : ℕ) (d : Data) (s : Step) → step_in at d ≡ Ok s → IsGood at s
 unfolding step_in

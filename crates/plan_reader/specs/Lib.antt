@@ -1,4 +1,6 @@
 pub mod Fields
+pub mod Items
+pub mod Runs
 pub mod Steps
 pub mod Plans
 pub mod Written

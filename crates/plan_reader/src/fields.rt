@@ -2,23 +2,24 @@
 ghost use Rattle.std.specs.Prelude.{map};
 ghost use Rattle.serde_json.specs.View.{view, members_view};
 ghost use Rattle.expr_text.specs.Gives.{Gives};
-ghost use Rattle.plan_reader.specs.Fields.{format_in, name_in, no_other, of_in};
+ghost use Rattle.plan_reader.specs.Fields.{earlier_in, format_in, name_in, only, whole_in};
 
 use expr_text::{Field, Place, PlanText, has_only, shape};
 use record_text::Name;
 use serde_json::{Map, Value};
 
-/// Refuses a field of the step that is none of these.
-pub fn only_known(step: usize, members: &Map<String, Value>, names: &[&str]) -> Result<(), PlanText>
-    ensures { Gives result (no_other step (map (λ name. name.now) names.now) (members_view members.now.entries)) }
+/// Refuses a field that is none of these, with the fault of this place.
+pub fn only_known(
+    place: Place,
+    members: &Map<String, Value>,
+    names: &[&str],
+) -> Result<(), PlanText>
+    ensures { Gives result (only place (map (λ name. name.now) names.now) (members_view members.now.entries)) }
 {
     if has_only(members, names) {
         Ok(())
     } else {
-        shape(Place {
-            step,
-            field: Field::Other,
-        })
+        shape(place)
     }
 }
 
@@ -32,6 +33,26 @@ pub fn format(value: &Value) -> Result<(), PlanText>
             step: 0,
             field: Field::Format,
         }),
+    }
+}
+
+/// The whole number of a field, from the least to the most.
+pub fn whole(place: Place, key: &str, least: u32, most: u32, value: &Value) -> Result<u32, PlanText>
+    ensures { Gives result (whole_in place key.now least most (view value.now)) }
+{
+    match value.get(key).and_then(Value::as_u64) {
+        Some(number) if least as u64 <= number && number <= most as u64 => Ok(number as u32),
+        _ => shape(place),
+    }
+}
+
+/// The earlier step of a field.
+pub fn earlier(place: Place, key: &str, value: &Value) -> Result<usize, PlanText>
+    ensures { Gives result (earlier_in place key.now (view value.now)) }
+{
+    match value.get(key).and_then(Value::as_u64) {
+        Some(step) if step < place.step as u64 => Ok(step as usize),
+        _ => shape(place),
     }
 }
 
@@ -49,18 +70,5 @@ pub fn name(step: usize, value: &Value) -> Result<Name, PlanText>
     match Name::read(text.as_bytes()) {
         Some(name) => Ok(name),
         None => shape(place),
-    }
-}
-
-/// The place of an earlier step.
-pub fn earlier(step: usize, value: &Value) -> Result<usize, PlanText>
-    ensures { Gives result (of_in step (view value.now)) }
-{
-    match value.get("of").and_then(Value::as_u64) {
-        Some(of) if of < step as u64 => Ok(of as usize),
-        _ => shape(Place {
-            step,
-            field: Field::Of,
-        }),
     }
 }

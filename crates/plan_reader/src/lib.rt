@@ -3,7 +3,9 @@
 #![tactic(auto)]
 
 mod fields;
+mod items;
 mod plan;
+mod runs;
 mod step;
 mod write;
 

@@ -17,7 +17,7 @@ use std::alloc::Global;
 const MAX_STEPS: usize = 64;
 
 /// The plan that a value denotes, or the first fault of its walk. `Memory` may come in place of any answer.
-/// The steps that can be read so far are `source`, `where` and `select`.
+/// All steps but `join` and `group` can be read so far.
 #[tactic(auto, unfolding(crate::specs::Plans::plan_walk))]
 pub fn read_plan(alloc: Global, value: &Value) -> Result<Plan, PlanText>
     ensures value { Gives result (plan_walk (view value.now)) }
@@ -37,7 +37,14 @@ pub fn read_plan(alloc: Global, value: &Value) -> Result<Plan, PlanText>
         },
         value.get("steps"),
     )?;
-    only_known(0, members, &["format", "steps"])?;
+    only_known(
+        Place {
+            step: 0,
+            field: Field::Other,
+        },
+        members,
+        &["format", "steps"],
+    )?;
     if list.len() > MAX_STEPS {
         return over(MAX_STEPS, Limit::Steps);
     }

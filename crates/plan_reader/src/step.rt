@@ -2,11 +2,14 @@
 ghost use Rattle.std.specs.Prelude.{◌≡◌, map};
 ghost use Rattle.serde_json.specs.View.{view, members_view};
 ghost use Rattle.expr_text.specs.Gives.{Gives};
-ghost use Rattle.plan_reader.specs.Steps.{kind_named, kind_of, select_in, source_in, step_fields, step_in, where_in};
+ghost use Rattle.plan_reader.specs.Fields.{no_other};
+ghost use Rattle.plan_reader.specs.Steps.{fields_in, kind_named, kind_of, left_in, many_in, of_in, over_in, right_in, select_in, set_in, set_named, shave_in, source_in, step_fields, step_in, where_in};
 
-use crate::fields::{earlier, name, only_known};
+use crate::fields::{earlier, name, only_known, whole};
+use crate::items::{MAX_WEIGHT, items};
+use crate::runs::runs;
 use expr_text::{Field, Place, PlanText, expr, exprs, shape};
-use plan_model::Step;
+use plan_model::{SetKind, Step};
 use serde_json::{Map, Value};
 use std::alloc::Global;
 
@@ -16,6 +19,9 @@ enum StepKind {
     Source,
     Where,
     Select,
+    Many,
+    Shave,
+    Set(SetKind),
 }
 
 /// The step that the value at this place of a plan denotes.
@@ -34,11 +40,7 @@ pub fn step(alloc: Global, at: usize, value: &Value) -> Result<Step, PlanText>
             step: at,
             field: Field::Do,
         }),
-        Some(kind) => match kind {
-            StepKind::Source => source(at, value, members),
-            StepKind::Where => filter(alloc, at, value, members),
-            StepKind::Select => select(alloc, at, value, members),
-        },
+        Some(kind) => fields_of(alloc, at, value, members, kind),
     }
 }
 
@@ -53,6 +55,7 @@ fn kind(value: &Value) -> Option<StepKind>
 }
 
 // What the text of that field asks for.
+#[tactic(auto, unfolding(crate::specs::Steps::kind_named))]
 fn kind_named(text: &str) -> Option<StepKind>
     ensures { result ≡ kind_named text.now }
 {
@@ -62,8 +65,53 @@ fn kind_named(text: &str) -> Option<StepKind>
         Some(StepKind::Where)
     } else if text == "select" {
         Some(StepKind::Select)
+    } else if text == "many" {
+        Some(StepKind::Many)
+    } else if text == "shave" {
+        Some(StepKind::Shave)
+    } else {
+        match set_named(text) {
+            Some(set) => Some(StepKind::Set(set)),
+            None => None,
+        }
+    }
+}
+
+// The set operator of a name.
+#[tactic(auto, unfolding(crate::specs::Steps::set_named))]
+fn set_named(text: &str) -> Option<SetKind>
+    ensures { result ≡ set_named text.now }
+{
+    if text == "union" {
+        Some(SetKind::Union)
+    } else if text == "intersect" {
+        Some(SetKind::Intersect)
+    } else if text == "concat" {
+        Some(SetKind::Concat)
+    } else if text == "except" {
+        Some(SetKind::Except)
     } else {
         None
+    }
+}
+
+// The step of this kind.
+fn fields_of(
+    alloc: Global,
+    at: usize,
+    value: &Value,
+    members: &Map<String, Value>,
+    kind: StepKind,
+) -> Result<Step, PlanText>
+    ensures { Gives result (fields_in at (view value.now) (members_view members.now.entries) kind) }
+{
+    match kind {
+        StepKind::Source => source(at, value, members),
+        StepKind::Where => filter(alloc, at, value, members),
+        StepKind::Select => select(alloc, at, value, members),
+        StepKind::Many => many(alloc, at, value, members),
+        StepKind::Shave => shave(alloc, at, value, members),
+        StepKind::Set(set) => set_step(set, at, value, members),
     }
 }
 
@@ -75,7 +123,33 @@ fn fields(kind: StepKind) -> &'static [&'static str]
         StepKind::Source => &["do", "name"],
         StepKind::Where => &["do", "of", "if"],
         StepKind::Select => &["do", "of", "row"],
+        StepKind::Many => &["do", "of", "over", "items"],
+        StepKind::Shave => &["do", "of", "runs"],
+        StepKind::Set(_) => &["do", "left", "right"],
     }
+}
+
+// Refuses a field that a step of this kind doesn't have.
+fn no_other(at: usize, kind: StepKind, members: &Map<String, Value>) -> Result<(), PlanText>
+    ensures { Gives result (no_other at (step_fields kind) (members_view members.now.entries)) }
+{
+    let place = Place {
+        step: at,
+        field: Field::Other,
+    };
+    only_known(place, members, fields(kind))
+}
+
+// The earlier step that the field `of` refers to.
+#[tactic(auto, unfolding(crate::specs::Steps::of_in))]
+fn of(at: usize, value: &Value) -> Result<usize, PlanText>
+    ensures { Gives result (of_in at (view value.now)) }
+{
+    let place = Place {
+        step: at,
+        field: Field::Of,
+    };
+    earlier(place, "of", value)
 }
 
 #[tactic(auto, unfolding(crate::specs::Steps::source_in))]
@@ -83,7 +157,7 @@ fn source(at: usize, value: &Value, members: &Map<String, Value>) -> Result<Step
     ensures { Gives result (source_in at (view value.now) (members_view members.now.entries)) }
 {
     let name = name(at, value)?;
-    only_known(at, members, fields(StepKind::Source))?;
+    no_other(at, StepKind::Source, members)?;
     Ok(Step::Source { name })
 }
 
@@ -96,7 +170,7 @@ fn filter(
 ) -> Result<Step, PlanText>
     ensures { Gives result (where_in at (view value.now) (members_view members.now.entries)) }
 {
-    let of = earlier(at, value)?;
+    let of = of(at, value)?;
     let place = Place {
         step: at,
         field: Field::If,
@@ -105,7 +179,7 @@ fn filter(
         return shape(place);
     };
     let test = expr(alloc, place, test)?;
-    only_known(at, members, fields(StepKind::Where))?;
+    no_other(at, StepKind::Where, members)?;
     Ok(Step::Filter { of, test })
 }
 
@@ -118,12 +192,102 @@ fn select(
 ) -> Result<Step, PlanText>
     ensures { Gives result (select_in at (view value.now) (members_view members.now.entries)) }
 {
-    let of = earlier(at, value)?;
+    let of = of(at, value)?;
     let place = Place {
         step: at,
         field: Field::Row,
     };
     let row = exprs(alloc, place, value.get("row"))?;
-    only_known(at, members, fields(StepKind::Select))?;
+    no_other(at, StepKind::Select, members)?;
     Ok(Step::Select { of, row })
+}
+
+#[tactic(auto, unfolding(crate::specs::Steps::many_in))]
+fn many(
+    alloc: Global,
+    at: usize,
+    value: &Value,
+    members: &Map<String, Value>,
+) -> Result<Step, PlanText>
+    ensures { Gives result (many_in at (view value.now) (members_view members.now.entries)) }
+{
+    let of = of(at, value)?;
+    let over = over(at, value)?;
+    let place = Place {
+        step: at,
+        field: Field::Items,
+    };
+    let items = items(alloc, place, value.get("items"))?;
+    no_other(at, StepKind::Many, members)?;
+    Ok(Step::Many { of, over, items })
+}
+
+// What the weights of the items are over.
+#[tactic(auto, unfolding(crate::specs::Steps::over_in))]
+fn over(at: usize, value: &Value) -> Result<u32, PlanText>
+    ensures { Gives result (over_in at (view value.now)) }
+{
+    let place = Place {
+        step: at,
+        field: Field::Over,
+    };
+    whole(place, "over", 1, MAX_WEIGHT, value)
+}
+
+#[tactic(auto, unfolding(crate::specs::Steps::shave_in))]
+fn shave(
+    alloc: Global,
+    at: usize,
+    value: &Value,
+    members: &Map<String, Value>,
+) -> Result<Step, PlanText>
+    ensures { Gives result (shave_in at (view value.now) (members_view members.now.entries)) }
+{
+    let of = of(at, value)?;
+    let place = Place {
+        step: at,
+        field: Field::Runs,
+    };
+    let runs = runs(alloc, place, value.get("runs"))?;
+    no_other(at, StepKind::Shave, members)?;
+    Ok(Step::Shave { of, runs })
+}
+
+#[tactic(auto, unfolding(crate::specs::Steps::set_in))]
+fn set_step(
+    kind: SetKind,
+    at: usize,
+    value: &Value,
+    members: &Map<String, Value>,
+) -> Result<Step, PlanText>
+    ensures { Gives result (set_in kind at (view value.now) (members_view members.now.entries)) }
+{
+    let left = left(at, value)?;
+    let right = right(at, value)?;
+    no_other(at, StepKind::Set(kind), members)?;
+    Ok(Step::Set { kind, left, right })
+}
+
+// The earlier step that the field `left` refers to.
+#[tactic(auto, unfolding(crate::specs::Steps::left_in))]
+fn left(at: usize, value: &Value) -> Result<usize, PlanText>
+    ensures { Gives result (left_in at (view value.now)) }
+{
+    let place = Place {
+        step: at,
+        field: Field::Left,
+    };
+    earlier(place, "left", value)
+}
+
+// The earlier step that the field `right` refers to.
+#[tactic(auto, unfolding(crate::specs::Steps::right_in))]
+fn right(at: usize, value: &Value) -> Result<usize, PlanText>
+    ensures { Gives result (right_in at (view value.now)) }
+{
+    let place = Place {
+        step: at,
+        field: Field::Right,
+    };
+    earlier(place, "right", value)
 }

@@ -5,10 +5,12 @@ ghost use Rattle.serde_json.specs.View.{view};
 ghost use Rattle.plan_model.specs.Limits.{is_plan, is_step};
 ghost use Rattle.plan_reader.specs.Plans.{is_built, plan_walk};
 ghost use Rattle.plan_reader.specs.Steps.{is_built_step, step_in};
-ghost use Rattle.plan_reader.specs.Written.{StepReadsAs, plan_data, select_data, source_data, where_data};
+ghost use Rattle.plan_reader.specs.Written.{StepReadsAs, many_data, plan_data, select_data, set_data, set_name, shave_data, source_data, where_data};
 
+use crate::items::items_to_json;
+use crate::runs::runs_to_json;
 use expr_text::{expr_to_json, exprs_to_json};
-use plan_model::{Memory, Plan, Step};
+use plan_model::{Memory, Plan, SetKind, Step};
 use serde_json::{Value, json};
 use std::alloc::Global;
 
@@ -54,7 +56,16 @@ fn step_to_json(alloc: Global, step: &Step) -> Result<Value, Memory>
             let row = exprs_to_json(alloc, row)?;
             select_of(alloc, *of, row)
         }
-        _ => unreachable!(),
+        Step::Many { of, over, items } => {
+            let items = items_to_json(alloc, items)?;
+            many_of(alloc, *of, *over, items)
+        }
+        Step::Shave { of, runs } => {
+            let runs = runs_to_json(alloc, runs)?;
+            shave_of(alloc, *of, runs)
+        }
+        Step::Set { kind, left, right } => set_of(alloc, set_name(*kind), *left, *right),
+        Step::Join { .. } | Step::Group { .. } => unreachable!(),
     }
 }
 
@@ -74,4 +85,34 @@ fn select_of(alloc: Global, of: usize, row: Value) -> Result<Value, Memory>
     ensures { IfOk result (λ value. view value ≡ select_data of (view row)) }
 {
     json!(in alloc; {"do": "select", "of": of, "row": row})
+}
+
+fn many_of(alloc: Global, of: usize, over: u32, items: Value) -> Result<Value, Memory>
+    ensures { IfOk result (λ value. view value ≡ many_data of over (view items)) }
+{
+    json!(in alloc; {"do": "many", "items": items, "of": of, "over": over})
+}
+
+fn shave_of(alloc: Global, of: usize, runs: Value) -> Result<Value, Memory>
+    ensures { IfOk result (λ value. view value ≡ shave_data of (view runs)) }
+{
+    json!(in alloc; {"do": "shave", "of": of, "runs": runs})
+}
+
+fn set_of(alloc: Global, name: &str, left: usize, right: usize) -> Result<Value, Memory>
+    ensures { IfOk result (λ value. view value ≡ set_data name.now left right) }
+{
+    json!(in alloc; {"do": name, "left": left, "right": right})
+}
+
+// The name of a set operator.
+fn set_name(kind: SetKind) -> &'static str
+    ensures { result.now ≡ set_name kind }
+{
+    match kind {
+        SetKind::Union => "union",
+        SetKind::Intersect => "intersect",
+        SetKind::Concat => "concat",
+        SetKind::Except => "except",
+    }
 }

@@ -88,7 +88,7 @@ fn names_the_first_fault_of_a_plan(rt: HostRuntime) -> Result<(), Fail> {
         ("{\"format\":1,\"steps\":[7]}", Field::Step),
         ("{\"format\":1,\"steps\":[{}]}", Field::Do),
         ("{\"format\":1,\"steps\":[{\"do\":7,\"a\":0}]}", Field::Do),
-        ("{\"format\":1,\"steps\":[{\"do\":\"many\"}]}", Field::Do),
+        ("{\"format\":1,\"steps\":[{\"do\":\"group\"}]}", Field::Do),
         (
             "{\"format\":1,\"steps\":[{\"do\":\"join\",\"left\":7},7]}",
             Field::Do,
@@ -158,6 +158,147 @@ fn names_the_first_fault_of_a_step(rt: HostRuntime) -> Result<(), Fail> {
             "{\"do\":\"select\",\"of\":0,\"row\":[{\"col\":0}],\"if\":0}",
             Field::Other,
         ),
+    ];
+    assert_eq!(rt; first_taken_step(rt.alloc(), &rows)?, None);
+    Ok(())
+}
+
+#[test]
+fn names_the_first_fault_of_many(rt: HostRuntime) -> Result<(), Fail> {
+    let rows = [
+        ("{\"do\":\"many\",\"over\":0}", Field::Of),
+        ("{\"do\":\"many\",\"of\":0,\"items\":7}", Field::Over),
+        (
+            "{\"do\":\"many\",\"of\":0,\"over\":0,\"items\":7}",
+            Field::Over,
+        ),
+        ("{\"do\":\"many\",\"of\":0,\"over\":1048577}", Field::Over),
+        (
+            "{\"do\":\"many\",\"of\":0,\"over\":1,\"a\":0}",
+            Field::Items,
+        ),
+        (
+            "{\"do\":\"many\",\"of\":0,\"over\":1,\"items\":[]}",
+            Field::Items,
+        ),
+        (
+            "{\"do\":\"many\",\"of\":0,\"over\":1,\"items\":[{\"weight\":0,\"row\":[{\"col\":0}]}],\"a\":0}",
+            Field::Other,
+        ),
+    ];
+    assert_eq!(rt; first_taken_step(rt.alloc(), &rows)?, None);
+    Ok(())
+}
+
+// Why so many of these items are none of a step.
+fn items_fault(alloc: Global, item: &str, times: usize) -> Result<Option<PlanText>, Fail> {
+    let list = listed(alloc, item, times)?;
+    let step = format!(in alloc;
+        "{{\"do\":\"many\",\"of\":0,\"over\":1048576,\"items\":[{list}]}}"
+    )?;
+    step_fault(alloc, step.as_str())
+}
+
+#[test]
+fn refuses_what_is_no_item(rt: HostRuntime) -> Result<(), Fail> {
+    let rows = [
+        "7",
+        "{\"row\":[{\"col\":0}]}",
+        "{\"weight\":1048577,\"row\":[{\"col\":0}]}",
+        "{\"weight\":-1,\"row\":[{\"col\":0}]}",
+        "{\"weight\":1}",
+        "{\"weight\":1,\"row\":[]}",
+        "{\"weight\":1,\"if\":null,\"row\":[{\"col\":0}]}",
+        "{\"weight\":1,\"row\":[{\"col\":0}],\"a\":0}",
+    ];
+    for item in rows {
+        assert!(rt; items_fault(rt.alloc(), item, 1)? == shape(1, Field::Items));
+    }
+    Ok(())
+}
+
+#[test]
+fn limits_the_items(rt: HostRuntime) -> Result<(), Fail> {
+    let rows = [
+        ("{\"weight\":1048576,\"row\":[{\"col\":0}]}", 64, None),
+        (
+            "{\"weight\":1048576,\"row\":[{\"col\":0}]}",
+            65,
+            over(1, Limit::Items),
+        ),
+        ("7", 64, shape(1, Field::Items)),
+        ("7", 65, over(1, Limit::Items)),
+    ];
+    for (item, times, expected) in rows {
+        assert!(rt; items_fault(rt.alloc(), item, times)? == expected);
+    }
+    Ok(())
+}
+
+// Why these runs are none of a step.
+fn runs_fault(alloc: Global, runs: &str) -> Result<Option<PlanText>, Fail> {
+    let step = format!(in alloc; "{{\"do\":\"shave\",\"of\":0,\"runs\":{runs}}}")?;
+    step_fault(alloc, step.as_str())
+}
+
+#[test]
+fn refuses_what_are_no_runs(rt: HostRuntime) -> Result<(), Fail> {
+    let rows = [
+        "7",
+        "[]",
+        "[7]",
+        "[{\"times\":1}]",
+        "[{\"weight\":1,\"times\":1}]",
+        "[{\"weight\":\"a\",\"times\":1}]",
+        "[{\"weight\":\"0\",\"times\":1}]",
+        "[{\"weight\":\"-1/2\",\"times\":1}]",
+        "[{\"weight\":\"1/2\"}]",
+        "[{\"weight\":\"1/2\",\"times\":0}]",
+        "[{\"weight\":\"1/2\",\"times\":1.0}]",
+        "[{\"weight\":\"1/2\",\"times\":4097,\"a\":0}]",
+        "[{\"weight\":\"1/2\",\"times\":4096},7]",
+    ];
+    for runs in rows {
+        assert!(rt; runs_fault(rt.alloc(), runs)? == shape(1, Field::Runs));
+    }
+    Ok(())
+}
+
+#[test]
+fn limits_the_pieces(rt: HostRuntime) -> Result<(), Fail> {
+    let rows = [
+        ("[{\"weight\":\"1/2\",\"times\":4096}]", None),
+        (
+            "[{\"weight\":\"1/2\",\"times\":4097},7]",
+            over(1, Limit::Pieces),
+        ),
+        (
+            "[{\"weight\":\"1/2\",\"times\":18446744073709551615}]",
+            over(1, Limit::Pieces),
+        ),
+        (
+            "[{\"weight\":\"1/2\",\"times\":4095},{\"weight\":\"1\",\"times\":2}]",
+            over(1, Limit::Pieces),
+        ),
+    ];
+    for (runs, expected) in rows {
+        assert!(rt; runs_fault(rt.alloc(), runs)? == expected);
+    }
+    Ok(())
+}
+
+#[test]
+fn names_the_first_fault_of_a_set_step(rt: HostRuntime) -> Result<(), Fail> {
+    let rows = [
+        ("{\"do\":\"union\",\"right\":0}", Field::Left),
+        ("{\"do\":\"union\",\"left\":1,\"right\":0}", Field::Left),
+        ("{\"do\":\"intersect\",\"left\":0,\"of\":0}", Field::Right),
+        ("{\"do\":\"concat\",\"left\":0,\"right\":1}", Field::Right),
+        (
+            "{\"do\":\"except\",\"left\":0,\"right\":0,\"of\":0}",
+            Field::Other,
+        ),
+        ("{\"do\":\"join\",\"left\":0,\"right\":0}", Field::Do),
     ];
     assert_eq!(rt; first_taken_step(rt.alloc(), &rows)?, None);
     Ok(())
@@ -379,6 +520,18 @@ fn writes_what_it_reads(rt: HostRuntime) -> Result<(), Fail> {
         {\"do\":\"select\",\"of\":1,\"row\":[{\"args\":[{\"text\":\"a \\\"b\\\" ż\"}],\"call\":\"len\"},\
         {\"args\":[{\"int\":9223372036854775807},{\"int\":0},{\"col\":0}],\"call\":\"pick\"}]},\
         {\"do\":\"where\",\"if\":{\"text\":\"\"},\"of\":2}]}";
+    assert_eq!(rt; read_and_written(rt.alloc(), text)?.as_str(), text);
+    Ok(())
+}
+
+#[test]
+fn writes_steps_on_several_rows(rt: HostRuntime) -> Result<(), Fail> {
+    let text = "{\"format\":1,\"steps\":[{\"do\":\"source\",\"name\":\"people\"},\
+        {\"do\":\"many\",\"items\":[{\"row\":[{\"col\":0}],\"weight\":0},\
+        {\"if\":{\"int\":1},\"row\":[{\"col\":1}],\"weight\":1048576}],\"of\":0,\"over\":2},\
+        {\"do\":\"shave\",\"of\":1,\"runs\":[{\"times\":4095,\"weight\":\"1/2\"},{\"times\":1,\"weight\":\"3\"}]},\
+        {\"do\":\"union\",\"left\":0,\"right\":1},{\"do\":\"intersect\",\"left\":2,\"right\":1},\
+        {\"do\":\"concat\",\"left\":4,\"right\":3},{\"do\":\"except\",\"left\":5,\"right\":5}]}";
     assert_eq!(rt; read_and_written(rt.alloc(), text)?.as_str(), text);
     Ok(())
 }

@@ -1,9 +1,12 @@
-use Rattle.std.proofs.Common.{◌≡◌}
+use Rattle.std.proofs.Common.{◌≡◌, ◌&&◌, nat_le, nat_lt}
+use Rattle.std.specs.List.{list_all}
+use Rattle.std.proofs.lemmas.Bool.{and_parts}
 use Rattle.std.proofs.lemmas.Result.{IfOk-weaker}
 use Rattle.serde_json.specs.View.{view}
 use Rattle.plan_model.specs.declared.step.Step.TheVariants as step
-use Rattle.plan_reader.specs.Written.{StepReadsAs, source_data, where_data, select_data}
-use Rattle.plan_reader.proofs.StepsReadBack.{reads-source, reads-where, reads-select}
+use Rattle.plan_model.specs.Limits.{is_item, is_run, max_item_weight}
+use Rattle.plan_reader.specs.Written.{StepReadsAs, source_data, where_data, select_data, many_data, shave_data, set_data}
+use Rattle.plan_reader.proofs.StepsReadBack.{reads-source, reads-where, reads-select, reads-many, reads-shave, reads-set}
 use Rattle.plan_reader.proofs.write.step_to_json.Goals as goal
 
 pub returns-in-Source : goal.returns-in-Source
@@ -22,3 +25,32 @@ returns-in_ok-row-in-Select c =
     rw c.in-Select.is (IfOk-weaker c.select_of.result (λ v. view v ≡ select_data c.in-Select.of (view c.in_ok-row-in-Select.row))
     (λ v. StepReadsAs (step.Select c.in-Select.of c.in-Select.row) (view v))
     (λ v is. rw is (reads-select c.in-Select.of c.in-Select.row (view c.in_ok-row-in-Select.row) c.in_ok-row-in-Select.ensures)) c.select_of.ensures)
+
+pub items_to_json-requires : goal.items_to_json-requires
+items_to_json-requires c =
+    let at = c.requires.limits.0 in
+    (and_parts (nat_lt c.in-Many.of at && nat_le 1 c.in-Many.over && nat_le c.in-Many.over max_item_weight) (list_all is_item c.in-Many.items)
+    (rw c.in-Many.is at c.requires.limits.1)).1
+
+pub runs_to_json-requires : goal.runs_to_json-requires
+runs_to_json-requires c =
+    let at = c.requires.limits.0 in
+    (and_parts (nat_lt c.in-Shave.of at) (list_all is_run c.in-Shave.runs) (rw c.in-Shave.is at c.requires.limits.1)).1
+
+pub returns-in_ok-items-in-Many : goal.returns-in_ok-items-in-Many
+returns-in_ok-items-in-Many c =
+    rw c.in-Many.is (IfOk-weaker c.many_of.result (λ v. view v ≡ many_data c.in-Many.of c.in-Many.over (view c.in_ok-items-in-Many.items))
+    (λ v. StepReadsAs (step.Many c.in-Many.of c.in-Many.over c.in-Many.items) (view v))
+    (λ v is. rw is (reads-many c.in-Many.of c.in-Many.over c.in-Many.items (view c.in_ok-items-in-Many.items) c.in_ok-items-in-Many.ensures)) c.many_of.ensures)
+
+pub returns-in_ok-runs-in-Shave : goal.returns-in_ok-runs-in-Shave
+returns-in_ok-runs-in-Shave c =
+    rw c.in-Shave.is (IfOk-weaker c.shave_of.result (λ v. view v ≡ shave_data c.in-Shave.of (view c.in_ok-runs-in-Shave.runs))
+    (λ v. StepReadsAs (step.Shave c.in-Shave.of c.in-Shave.runs) (view v))
+    (λ v is. rw is (reads-shave c.in-Shave.of c.in-Shave.runs (view c.in_ok-runs-in-Shave.runs) c.in_ok-runs-in-Shave.ensures)) c.shave_of.ensures)
+
+pub returns-in-Set : goal.returns-in-Set
+returns-in-Set c =
+    rw c.in-Set.is (IfOk-weaker c.set_of.result (λ v. view v ≡ set_data c.set_name.result.now c.in-Set.left c.in-Set.right)
+    (λ v. StepReadsAs (step.Set c.in-Set.kind c.in-Set.left c.in-Set.right) (view v))
+    (λ v is. rw (is, c.set_name.ensures) (reads-set c.in-Set.kind c.in-Set.left c.in-Set.right)) c.set_of.ensures)
