@@ -18,7 +18,7 @@ use Rattle.plan_reader.specs.declared.step.StepKind.TheVariants as kind
 use Rattle.plan_reader.specs.Fields.{no_other, name_in}
 use Rattle.plan_reader.specs.Items.{items_in}
 use Rattle.plan_reader.specs.Runs.{runs_in}
-use Rattle.plan_reader.specs.Steps.{kind_of, step_fields, of_in, left_in, right_in, over_in, source_in, where_in, select_in, many_in, shave_in, set_in, fields_in, step_in, is_built_step}
+use Rattle.plan_reader.specs.Steps.{kind_of, step_fields, of_in, left_in, right_in, over_in, source_in, where_in, select_in, many_in, shave_in, set_in, fields_in, step_at, is_built_step}
 use Rattle.plan_reader.specs.Plans.{is_built}
 use Rattle.json_fields.proofs.Walks.{both_steps}
 use Rattle.plan_reader.proofs.BuiltItems.{are_items-items_in}
@@ -123,32 +123,32 @@ good-fields_in at d ms kind.Many s e = good-many_in at d ms s e
 good-fields_in at d ms kind.Shave s e = good-shave_in at d ms s e
 good-fields_in at d ms (kind.Set which) s e = good-set_in which at d ms s e
 
-good-step_in : (at : ℕ) (d : Data) (s : Step) → step_in at d ≡ Ok s → IsGood at s
-unfolding step_in
-good-step_in at d s e =
+good-step_at : (at : ℕ) (d : Data) (s : Step) → step_at at d ≡ Ok s → IsGood at s
+unfolding step_at
+good-step_at at d s e =
     let members = both_steps (or_shape (place at field.Step) (as_object d)) _ s e in
     let k = both_steps (or_shape (place at field.Do) (kind_of d)) _ s members.2 in
     good-fields_in at d members.0 k.0 s k.2
 
 -- ---- all steps
 
-pub are_steps-each : (at : ℕ) (ds : List Data) (ss : List Step) → each step_in at ds ≡ Ok ss → are_steps at ss ≡ true
+pub are_steps-each : (at : ℕ) (ds : List Data) (ss : List Step) → each step_at at ds ≡ Ok ss → are_steps at ss ≡ true
 are_steps-each at [] ss e = let none : [] ≡ ss = cc in rw (← none) refl
 are_steps-each at (d ∷ ds) ss e =
-    let first = both_steps (step_in at d) _ ss e in
-    let rest = both_steps (each step_in (at + 1) ds) _ ss first.2 in
+    let first = both_steps (step_at at d) _ ss e in
+    let rest = both_steps (each step_at (at + 1) ds) _ ss first.2 in
     let is : first.0 ∷ rest.0 ≡ ss = (let last = rest.2 in cc) in
-    rw (← is, (good-step_in at d first.0 first.1).limits, are_steps-each (at + 1) ds rest.0 rest.1) refl
+    rw (← is, (good-step_at at d first.0 first.1).limits, are_steps-each (at + 1) ds rest.0 rest.1) refl
 
-pub is_built-each : (at : ℕ) (ds : List Data) (ss : List Step) → each step_in at ds ≡ Ok ss → is_built ss ≡ true
+pub is_built-each : (at : ℕ) (ds : List Data) (ss : List Step) → each step_at at ds ≡ Ok ss → is_built ss ≡ true
 is_built-each at [] ss e = let none : [] ≡ ss = cc in rw (← none) refl
 is_built-each at (d ∷ ds) ss e =
-    let first = both_steps (step_in at d) _ ss e in
-    let rest = both_steps (each step_in (at + 1) ds) _ ss first.2 in
+    let first = both_steps (step_at at d) _ ss e in
+    let rest = both_steps (each step_at (at + 1) ds) _ ss first.2 in
     let is : first.0 ∷ rest.0 ≡ ss = (let last = rest.2 in cc) in
-    rw (← is, (good-step_in at d first.0 first.1).built, is_built-each (at + 1) ds rest.0 rest.1) refl
+    rw (← is, (good-step_at at d first.0 first.1).built, is_built-each (at + 1) ds rest.0 rest.1) refl
 
 -- 1 to 64 values that are walked as steps give a plan
-pub is_plan-each : (ds : List Data) (ss : List Step) → 0 < length ds → length ds ≤ 64 → each step_in 0 ds ≡ Ok ss → IsTrue (is_plan ss)
+pub is_plan-each : (ds : List Data) (ss : List Step) → 0 < length ds → length ds ≤ 64 → each step_at 0 ds ≡ Ok ss → IsTrue (is_plan ss)
 is_plan-each ds ss some most e =
-    rw (length-each step_in 0 ds ss e, le-leb 1 (length ds) (omega arith), le-leb (length ds) 64 most, are_steps-each 0 ds ss e) refl
+    rw (length-each step_at 0 ds ss e, le-leb 1 (length ds) (omega arith), le-leb (length ds) 64 most, are_steps-each 0 ds ss e) refl

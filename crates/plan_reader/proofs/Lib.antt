@@ -5,3 +5,4 @@ pub mod BuiltSteps
 pub mod ItemsReadBack
 pub mod RunsReadBack
 pub mod StepsReadBack
+pub mod StepsAfter

@@ -1,9 +1,9 @@
 -- The plan that a value denotes, or the first fault of its walk.
-use Rattle.std.specs.Prelude.{ℕ, nat_le, List, [], ◌∷◌, length, Bool, codes, if◌then◌else◌, Result, Ok}
+use Rattle.std.specs.Prelude.{ℕ, nat_le, List, [], ◌∷◌, ◌++◌, length, Bool, codes, if◌then◌else◌, Result, Ok}
 use Rattle.std.specs.List.{list_all}
 use Rattle.serde_json.specs.Data.{Data}
 use Rattle.serde_json.specs.Find.{get, as_object}
-use Rattle.json_fields.specs.Walk.{◌>>=◌, each}
+use Rattle.json_fields.specs.Walk.{◌>>=◌}
 use Rattle.plan_model.specs.declared.step.Step.{Step}
 use Rattle.expr_text.specs.declared.fault.Field.TheVariants as field
 use Rattle.expr_text.specs.declared.fault.Limit.TheVariants as limit
@@ -16,6 +16,13 @@ use Rattle.plan_reader.specs.Steps.{step_in, is_built_step}
 -- at most 64 steps
 abbrev pub few : List Data → Result (List Data) PlanText
 few ds = if nat_le (length ds) 64 then Ok ds else over 64 limit.Steps
+
+-- the steps of these values, behind those that were read before, which each step's walk is handed
+abbrev pub steps_after : List Step → List Data → Result (List Step) PlanText
+steps_after read [] = Ok read
+steps_after read (d ∷ ds) = do
+  s ← step_in read d
+  steps_after (read ++ s ∷ []) ds
 
 -- the fields of a plan
 abbrev pub plan_fields : List (List ℕ)
@@ -30,7 +37,7 @@ plan_walk d = do
   ds ← list_in (place 0 field.Steps) (get (codes "steps") d)
   known ← no_other 0 plan_fields ms
   members ← few ds
-  each step_in 0 members
+  steps_after [] members
 
 -- each step is of a kind that is read and written
 abbrev pub is_built : List Step → Bool

@@ -1,5 +1,5 @@
 -- The step that a value denotes, or the first fault of its walk.
-use Rattle.std.specs.Prelude.{ℕ, List, [], ◌∷◌, Bool, true, false, codes, if◌then◌else◌, Option, Some, None, option_map, option_and_then, Result, Ok}
+use Rattle.std.specs.Prelude.{ℕ, List, [], ◌∷◌, length, Bool, true, false, codes, if◌then◌else◌, Option, Some, None, option_map, option_and_then, Result, Ok}
 use Rattle.std.specs.Str.{bytes_eq}
 use Rattle.serde_json.specs.Data.{Data, Members}
 use Rattle.serde_json.specs.Find.{get, as_str, as_object}
@@ -122,11 +122,15 @@ fields_in at d ms kind.Shave = shave_in at d ms
 fields_in at d ms (kind.Set which) = set_in which at d ms
 
 -- the step at a place of the plan
-unfoldable pub step_in : ℕ → Data → Result Step PlanText
-step_in at d = do
+unfoldable pub step_at : ℕ → Data → Result Step PlanText
+step_at at d = do
   ms ← or_shape (place at field.Step) (as_object d)
   k ← or_shape (place at field.Do) (kind_of d)
   fields_in at d ms k
+
+-- the step behind those that were read before
+abbrev pub step_in : List Step → Data → Result Step PlanText
+step_in read d = step_at (length read) d
 
 -- ---- the steps that are read and written
 

@@ -11,7 +11,7 @@ use Rattle.plan_model.specs.Limits.{is_step}
 use Rattle.expr_text.specs.declared.fault.Place.{Place}
 use Rattle.plan_reader.specs.Items.{item_in, items_in}
 use Rattle.plan_reader.specs.Runs.{run_in, runs_in}
-use Rattle.plan_reader.specs.Steps.{step_in}
+use Rattle.plan_reader.specs.Steps.{step_at}
 
 -- ---- values
 
@@ -89,4 +89,4 @@ RunsReadAs rs d = (p : Place) → runs_in p (Some d) ≡ Ok rs
 
 -- at each place of a plan where the step may stand, the walk over the value gives the step
 abbrev pub StepReadsAs : Step → Data → Type 0
-StepReadsAs s d = (at : ℕ) → IsTrue (is_step at s) → step_in at d ≡ Ok s
+StepReadsAs s d = (at : ℕ) → IsTrue (is_step at s) → step_at at d ≡ Ok s

@@ -1,10 +1,8 @@
 //! From a value to a plan.
-ghost use Rattle.std.specs.Prelude.{◌≡◌, ◌≤◌, ◌<◌, IfOk, IsTrue, length, map};
+ghost use Rattle.std.specs.Prelude.{◌≡◌, ◌≤◌, ◌<◌, [], IfOk, IsTrue, length, map};
 ghost use Rattle.serde_json.specs.View.{view};
-ghost use Rattle.json_fields.specs.Walk.{each};
 ghost use Rattle.expr_text.specs.Gives.{Gives, GivesBy};
-ghost use Rattle.plan_reader.specs.Steps.{step_in};
-ghost use Rattle.plan_reader.specs.Plans.{is_built, plan_walk};
+ghost use Rattle.plan_reader.specs.Plans.{is_built, plan_walk, steps_after};
 
 use crate::fields::{format, only_known};
 use crate::step::step;
@@ -54,11 +52,12 @@ pub fn read_plan(alloc: Global, value: &Value) -> Result<Plan, PlanText>
 
 // The steps of these values.
 fn steps(alloc: Global, list: &[Value]) -> Result<Vec<Step>, PlanText>
-    ensures { GivesBy (λ steps. steps.items) result (each step_in 0 (map view list.now)) }
+    ensures { GivesBy (λ steps. steps.items) result (steps_after [] (map view list.now)) }
 {
     let mut steps = Vec::with_capacity(alloc, list.len())?;
-    for (at, value) in list.iter().enumerate() {
-        steps.push(step(alloc, at, value)?)?;
+    for value in list {
+        let next = step(alloc, &steps, value)?;
+        steps.push(next)?;
     }
     Ok(steps)
 }

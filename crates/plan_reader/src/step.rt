@@ -3,7 +3,7 @@ ghost use Rattle.std.specs.Prelude.{◌≡◌, map};
 ghost use Rattle.serde_json.specs.View.{view, members_view};
 ghost use Rattle.expr_text.specs.Gives.{Gives};
 ghost use Rattle.plan_reader.specs.Fields.{no_other};
-ghost use Rattle.plan_reader.specs.Steps.{fields_in, kind_named, kind_of, left_in, many_in, of_in, over_in, right_in, select_in, set_in, set_named, shave_in, source_in, step_fields, step_in, where_in};
+ghost use Rattle.plan_reader.specs.Steps.{fields_in, kind_named, kind_of, left_in, many_in, of_in, over_in, right_in, select_in, set_in, set_named, shave_in, source_in, step_at, step_fields, step_in, where_in};
 
 use crate::fields::{earlier, name, only_known, whole};
 use crate::items::{MAX_WEIGHT, items};
@@ -24,10 +24,17 @@ enum StepKind {
     Set(SetKind),
 }
 
-/// The step that the value at this place of a plan denotes.
-#[tactic(auto, unfolding(crate::specs::Steps::step_in))]
-pub fn step(alloc: Global, at: usize, value: &Value) -> Result<Step, PlanText>
-    ensures { Gives result (step_in at (view value.now)) }
+/// The step that a value denotes, behind those of the plan that were read before.
+pub fn step(alloc: Global, read: &[Step], value: &Value) -> Result<Step, PlanText>
+    ensures { Gives result (step_in read.now (view value.now)) }
+{
+    step_at(alloc, read.len(), value)
+}
+
+// The step at this place of a plan.
+#[tactic(auto, unfolding(crate::specs::Steps::step_at))]
+fn step_at(alloc: Global, at: usize, value: &Value) -> Result<Step, PlanText>
+    ensures { Gives result (step_at at (view value.now)) }
 {
     let Some(members) = value.as_object() else {
         return shape(Place {

@@ -4,7 +4,7 @@ ghost use Rattle.json_fields.specs.Walk.{each};
 ghost use Rattle.serde_json.specs.View.{view};
 ghost use Rattle.plan_model.specs.Limits.{is_plan, is_step};
 ghost use Rattle.plan_reader.specs.Plans.{is_built, plan_walk};
-ghost use Rattle.plan_reader.specs.Steps.{is_built_step, step_in};
+ghost use Rattle.plan_reader.specs.Steps.{is_built_step, step_at};
 ghost use Rattle.plan_reader.specs.Written.{StepReadsAs, many_data, plan_data, select_data, set_data, set_name, shave_data, source_data, where_data};
 
 use crate::items::items_to_json;
@@ -31,7 +31,7 @@ fn plan_of(alloc: Global, steps: Vec<Value>) -> Result<Value, Memory>
 
 fn steps_to_json(alloc: Global, plan: &Plan) -> Result<Vec<Value>, Memory>
     requires { IsTrue (is_built plan.now) }
-    ensures values { IfOk result (λ values. each step_in 0 (map view values.items) ≡ Ok plan.now) }
+    ensures values { IfOk result (λ values. each step_at 0 (map view values.items) ≡ Ok plan.now) }
     ensures plan { IfOk result (λ _. IsTrue (is_plan plan.now)) }
 {
     let mut values = Vec::with_capacity(alloc, plan.len())?;
