@@ -4,10 +4,9 @@ use Rattle.std.specs.List.{list_all}
 use Rattle.std.proofs.lemmas.Option.{option_and_then_some}
 use Rattle.serde_json.specs.Data.{Data}
 use Rattle.serde_json.specs.Find.{get, as_object, as_str}
-use Rattle.ratios.specs.Ratio.{Ratio, zero_ratio}
+use Rattle.ratios.specs.Ratio.{Ratio, is_below, zero_ratio}
 use Rattle.frac_core.specs.declared.FracFault.{FracFault}
 use Rattle.frac_core.specs.Text.{weight_of}
-use Rattle.operators.specs.Weights.{is_below}
 use Rattle.plan_model.specs.declared.step.Run.{Run}
 use Rattle.plan_model.specs.Limits.{is_run}
 use Rattle.expr_text.specs.declared.fault.Place.{Place}

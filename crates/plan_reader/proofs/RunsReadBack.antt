@@ -11,9 +11,8 @@ use Rattle.serde_json.specs.View.{view, items_of}
 use Rattle.serde_json.specs.declared.value.Value.{Value}
 use Rattle.json_fields.proofs.Members.{data_list-items_of}
 use Rattle.json_fields.proofs.Walks.{both_steps}
-use Rattle.ratios.specs.Ratio.{zero_ratio}
+use Rattle.ratios.specs.Ratio.{is_below, zero_ratio}
 use Rattle.frac_core.specs.Text.{weight_of}
-use Rattle.operators.specs.Weights.{is_below}
 use Rattle.plan_model.specs.declared.step.Run.{Run}
 use Rattle.plan_model.specs.Limits.{is_run}
 use Rattle.plan_model.specs.Pieces.{piece_count}
