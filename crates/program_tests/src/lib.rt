@@ -2,6 +2,8 @@
 #![tactic(auto)]
 
 #[cfg(test)]
+mod operators;
+#[cfg(test)]
 mod plans;
 #[cfg(test)]
 mod runs;
