@@ -20,9 +20,9 @@ steps_after-each read (d ∷ ds) =
     elim (step_at (length read) d)
     as (λ r. (r >>= λ s. steps_after (read ++ s ∷ []) ds) ≡ with_front read (r >>= λ s. each step_at (length read + 1) ds >>= λ ss. Ok (s ∷ ss))) [
       | Ok s ↦
-        let len : length (read ++ s ∷ []) ≡ length read + 1 = length-append read (s ∷ []) in
-        steps_after-each (read ++ s ∷ []) ds ∙ ap (λ at. with_front (read ++ s ∷ []) (each step_at at ds)) len
-        ∙ sym (with_front-next read s (each step_at (length read + 1) ds))
+          let len : length (read ++ s ∷ []) ≡ length read + 1 = length-append read (s ∷ []) in
+          steps_after-each (read ++ s ∷ []) ds ∙ ap (λ at. with_front (read ++ s ∷ []) (each step_at at ds)) len
+          ∙ sym (with_front-next read s (each step_at (length read + 1) ds))
       | Err e ↦ refl
     ]
 

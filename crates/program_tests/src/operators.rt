@@ -68,9 +68,7 @@ fn set_steps_compare_and_add_weights(rt: HostRuntime) -> Result<(), Fail> {
 }
 
 #[test]
-fn an_update_that_a_sum_of_two_inputs_refuses_changes_nothing(
-    rt: HostRuntime,
-) -> Result<(), Fail> {
+fn an_update_that_a_sum_of_two_inputs_refuses_changes_nothing(rt: HostRuntime) -> Result<(), Fail> {
     let rows = [
         (
             r#"{"op":"source","name":"s","kinds":["int"],"signed":false,"budget":0}"#,
@@ -133,8 +131,9 @@ fn many_spreads_a_weight_over_the_items_that_apply(rt: HostRuntime) -> Result<()
 
 // Declares the plan p of so many steps, the source a and then each step the concat of the one before with itself.
 fn doubling(alloc: Global, steps: usize) -> Result<String, AllocError> {
-    let mut line =
-        format!(in alloc; r#"{{"op":"plan","name":"p","plan":{{"format":1,"steps":[{{"do":"source","name":"a"}}"#)?;
+    let mut line = format!(in alloc;
+        r#"{{"op":"plan","name":"p","plan":{{"format":1,"steps":[{{"do":"source","name":"a"}}"#
+    )?;
     for before in 0..steps.saturating_sub(1) {
         let step = format!(in alloc; r#",{{"do":"concat","left":{before},"right":{before}}}"#)?;
         line.push_str(step.as_str())?;
