@@ -2,7 +2,7 @@
 #![tactic(auto)]
 
 #[cfg(test)]
-mod operators;
+mod plan_steps;
 #[cfg(test)]
 mod plans;
 #[cfg(test)]

@@ -7,8 +7,8 @@ ghost use Rattle.flow_graph.specs.Fresh.{committed_family};
 ghost use Rattle.set_tests.specs.Columns.{two_ints};
 ghost use Rattle.set_tests.specs.Trials.{AreSettled, IsRunning, MayPut, no_set, put_at};
 
+use crate::both_engines::have_columns;
 use crate::columns::{only_second_column, second_column, two_ints};
-use crate::engines::have_columns;
 use crate::values::{MOST, pair, pair_weights, row, whole};
 use flow_graph::{FlowGraph, GraphFault};
 use plan_checker::{check, place_of};

@@ -5,15 +5,15 @@
 #[cfg(test)]
 mod apart;
 #[cfg(test)]
-mod columns;
+mod both_engines;
 #[cfg(test)]
-mod engines;
+mod columns;
 #[cfg(test)]
 mod graphs;
 #[cfg(test)]
 mod linear;
 #[cfg(test)]
-mod operators;
+mod many_shave_set;
 #[cfg(test)]
 mod sets;
 #[cfg(test)]

@@ -3,7 +3,7 @@ use Rattle.datasets.specs.Dataset.{empty}
 use Rattle.weighted_set.specs.Changes.{applied}
 use Rattle.set_tests.specs.Columns.{two_ints}
 use Rattle.set_tests.proofs.Trials.{HasColumns-applied, MayBecome-served, Serves-settled}
-use Rattle.set_tests.proofs.engines.turn.Goals as goal
+use Rattle.set_tests.proofs.both_engines.turn.Goals as goal
 
 pub prepare-requires-clause-inputs : goal.prepare-requires-clause-inputs
 prepare-requires-clause-inputs g c =

@@ -3,7 +3,7 @@ use Rattle.std.proofs.Common.{ap, refl, ◌∙◌}
 use Rattle.op_linear.specs.Select.{SelectParts}
 use Rattle.set_tests.proofs.Empty.{select_fits-empty}
 use Rattle.set_tests.proofs.Trials.{Serves-start}
-use Rattle.set_tests.proofs.engines.follow_both.Goals as goal
+use Rattle.set_tests.proofs.both_engines.follow_both.Goals as goal
 
 pub follow_all-requires : goal.follow_all-requires
 follow_all-requires g c =
