@@ -6,4 +6,5 @@ pub mod Names
 pub mod Held
 pub mod JsonRows
 pub mod FieldAtoms
+pub mod FieldMemory
 pub mod Laws

@@ -2,6 +2,7 @@
 ghost use Rattle.std.specs.Prelude.{◌≡◌};
 ghost use Rattle.std.specs.Str.Parse.{without_leading_sign};
 ghost use Rattle.record_text.specs.FieldAtoms.{int_of_field, text_of_field, atom_of_field, GivesAtom};
+ghost use Rattle.record_text.specs.FieldMemory.{WantsForText};
 
 use crate::atom::Atom;
 use crate::kinds::Kind;
@@ -29,10 +30,11 @@ pub enum AtomFault {
 }
 
 /// The atom of a field that is to be of this kind: an Int of an optional `+` or `-` and 1 to 19 digits
-/// whose value an i64 holds, or a Text of at most 255 bytes of UTF-8.
+/// whose value an i64 holds, or a Text of at most 255 bytes of UTF-8. `Memory` may come in place of a Text.
 #[tactic(auto, unfolding(crate::specs::FieldAtoms::atom_of_field))]
 pub fn atom_from_field(alloc: Global, field: &[u8], kind: Kind) -> Result<Atom, AtomFault>
-    ensures { GivesAtom result (atom_of_field field.now kind) }
+    ensures atom { GivesAtom result (atom_of_field field.now kind) }
+    ensures memory { WantsForText result (atom_of_field field.now kind) }
 {
     match kind {
         Kind::Int => match int_from_field(field) {
@@ -65,7 +67,8 @@ fn without_sign(field: &[u8]) -> &[u8]
 }
 
 fn text_from_field(alloc: Global, field: &[u8]) -> Result<Atom, AtomFault>
-    ensures { GivesAtom result (text_of_field field.now) }
+    ensures atom { GivesAtom result (text_of_field field.now) }
+    ensures memory { WantsForText result (text_of_field field.now) }
 {
     let Ok(text) = str::from_utf8(field) else {
         return Err(AtomFault::NotUtf8);
