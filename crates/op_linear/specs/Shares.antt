@@ -1,5 +1,5 @@
 -- The weights that items give to the rows that they make of one row.
-use Rattle.std.specs.Prelude.{◌<◌, ℕ, All, List, filter, if◌then◌else◌, map, pos, unwrap_or}
+use Rattle.std.specs.Prelude.{◌≡◌, ◌+◌, ◌<◌, ℕ, All, List, filter, if◌then◌else◌, map, pos, unwrap_or}
 use Rattle.std.specs.Map.{lookup, values_of}
 use Rattle.ratios.specs.Ratio.{ratio}
 use Rattle.datasets.specs.Entries.{Entries, Row, same_row}
@@ -34,6 +34,14 @@ weight_on i y = if i.applies y then i.weight else 0
 -- that weight where the item gives z, else 0
 abbrev pub weight_for : Giving → Row → Row → ℕ
 weight_for i y z = if same_row z (i.row y) then weight_on i y else 0
+
+-- the weight of x is w more, and every other row keeps its own
+abbrev pub AddsWeight : Row → ℕ → RowSums → RowSums → Type 0
+AddsWeight x w old new = (z : Row) → sum_at new z ≡ sum_at old z + (if same_row z x then w else 0)
+
+-- the item's weight on y is added to that of the row that it makes of y, and every other row keeps its own
+abbrev pub AddsItem : Giving → Row → RowSums → RowSums → Type 0
+AddsItem i y old new = (z : Row) → sum_at new z ≡ sum_at old z + weight_for i y z
 
 -- the weight of the items that apply to y and give z
 abbrev pub given : List Giving → Row → Row → ℕ

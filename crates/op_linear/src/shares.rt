@@ -1,16 +1,17 @@
 //! The rows that items make of a row, with their factors.
-ghost use Rattle.std.specs.Prelude.{◌≡◌, ◌+◌, ◌<◌, ◌≤◌, ◌^◌, ◌++◌, [], IfOk, IsTrue, OnOk, if◌then◌else◌, option_to_list, pos};
+ghost use Rattle.std.specs.Prelude.{◌≡◌, ◌+◌, ◌<◌, ◌≤◌, ◌^◌, [], IfOk, IsTrue, OnOk, option_to_list, pos};
 ghost use Rattle.std.specs.List.{list_all};
 ghost use Rattle.std.specs.Map.{keys_of};
-ghost use Rattle.datasets.specs.Entries.{AreRising, Row, same_row};
+ghost use Rattle.datasets.specs.Entries.{AreRising, Row};
 ghost use Rattle.plan_model.specs.Acceptance.{are_ints, have_kinds};
 ghost use Rattle.plan_model.specs.Evaluation.{giving, guarded};
 ghost use Rattle.plan_model.specs.Limits.{is_item};
 ghost use Rattle.ratios.specs.Ratio.{ratio};
 ghost use Rattle.record_text.specs.KindLists.{kinds_of};
 ghost use Rattle.weighted_set.specs.Changes.{entries_of};
+ghost use Rattle.op_parts.specs.Appended.{Appends};
 ghost use Rattle.op_linear.specs.Many.{items_have_kinds, shares as row_shares};
-ghost use Rattle.op_linear.specs.Shares.{AreAboveZero, divided, giving_of, sum_at, weight_for, weight_on};
+ghost use Rattle.op_linear.specs.Shares.{AddsItem, AddsWeight, AreAboveZero, divided, giving_of, sum_at, weight_on};
 
 use frac_core::Frac;
 use op_parts::{made_row, passes};
@@ -35,7 +36,7 @@ fn applies(alloc: Global, guard: &Option<Expr>, row: &Row) -> Result<bool, Memor
 fn add_weight(sums: &mut BTreeMap<Row, u32>, row: Row, weight: u32) -> Result<(), Memory>
     requires some { 0 < weight }
     requires room { sum_at sums.old.entries row + weight < 2 ^ 32 }
-    ensures sums { OnOk result ((z : Row) → sum_at sums.new.entries z ≡ sum_at sums.old.entries z + (if same_row z row then weight else 0)) }
+    ensures sums { OnOk result (AddsWeight row weight sums.old.entries sums.new.entries) }
     ensures above_zero { OnOk result (AreAboveZero sums.old.entries → AreAboveZero sums.new.entries) }
 {
     let sum = match sums.get(&row) {
@@ -58,7 +59,7 @@ fn add_item(
     requires kinds { IsTrue (have_kinds (kinds_of row.now) item.now.row) }
     requires room { (z : Row) → sum_at sums.old.entries z + item.now.weight < 2 ^ 32 }
     ensures weight { IfOk result (λ weight. weight ≡ weight_on (giving_of item.now) row.now) }
-    ensures sums { OnOk result ((z : Row) → sum_at sums.new.entries z ≡ sum_at sums.old.entries z + weight_for (giving_of item.now) row.now z) }
+    ensures sums { OnOk result (AddsItem (giving_of item.now) row.now sums.old.entries sums.new.entries) }
     ensures above_zero { OnOk result (AreAboveZero sums.old.entries → AreAboveZero sums.new.entries) }
 {
     if item.weight == 0 {
@@ -90,7 +91,7 @@ fn push_shares(
     into: &mut Vec<Weighted>,
 ) -> Result<(), Memory>
     requires { 0 < divisor }
-    ensures ok { OnOk result (entries_of into.new.items ≡ entries_of into.old.items ++ divided divisor sums.entries) }
+    ensures ok { OnOk result (Appends into.old.items (divided divisor sums.entries) into.new.items) }
     ensures rising { AreRising (keys_of sums.entries) }
 {
     // Tells that the rows are in order.
