@@ -1,5 +1,5 @@
-//! Tests of weighted sets and stores, of the operators key by key, and of graphs of plans: of what no contract says,
-//! that calls succeed, and that the definitions say what is meant.
+//! Tests of weighted sets and stores, of filter and select, and of graphs of plans: of what no contract says, that
+//! calls succeed, and that the definitions say what is meant.
 #![tactic(auto)]
 
 #[cfg(test)]
@@ -12,8 +12,6 @@ mod columns;
 mod graphs;
 #[cfg(test)]
 mod linear;
-#[cfg(test)]
-mod many_shave_set;
 #[cfg(test)]
 mod sets;
 #[cfg(test)]

@@ -43,8 +43,8 @@ fn rows_that_pass_are_kept(rt: HostRuntime) {
     keep_rows::<Brand>(&rt, rt.alloc(), Blank::new(1));
 }
 
-/// A part: rows of two numbers, these first ones and 7, with whole weights.
-pub fn part<L: Ledger>(
+// A part: rows of two numbers, these first ones and 7, with whole weights.
+fn part<L: Ledger>(
     alloc: Global,
     pairs: &[(i64, i64)],
     steps: &mut Steps<L>,
