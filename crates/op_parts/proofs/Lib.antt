@@ -1,6 +1,7 @@
 pub mod Members
 pub mod Ranges
 pub mod OneRows
+pub mod OneKeys
 pub mod PartEntries
 pub mod Takes
 mod MadeRows
