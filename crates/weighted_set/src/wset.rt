@@ -1,12 +1,14 @@
 //! A set of rows with weights.
-ghost use Rattle.std.specs.Prelude.{◌≡◌, ◌<◌, OnErr, OnOk, length, slice_get};
+ghost use Rattle.std.specs.Prelude.{◌≡◌, ◌<◌, ◌++◌, OnErr, OnOk, length, slice_get};
 ghost use Rattle.datasets.specs.Dataset.{at as weight_at, empty, rows, set_at};
+ghost use Rattle.weighted_set.specs.Changes.{entries_of};
 ghost use Rattle.weighted_set.specs.Held.{AllInRange};
 ghost use Rattle.weighted_set.specs.Sizes.{checked_distance, checked_norm};
 
 use crate::Memory;
 use crate::compared::compare;
 use crate::held::is_zero;
+use crate::weighted::Weighted;
 use frac_core::Frac;
 use record_text::Row;
 use std::alloc::Global;
@@ -90,6 +92,16 @@ impl WSet {
             return Ok(());
         }
         self.table.insert(row, weight)?;
+        Ok(())
+    }
+
+    /// Moves the rows behind a list, in row order, each with its weight.
+    pub fn append_to(self, into: &mut Vec<Weighted>) -> Result<(), Memory>
+        ensures { OnOk result (entries_of into.new.items ≡ entries_of into.old.items ++ self.entries) }
+    {
+        for (row, weight) in self.table {
+            into.push(Weighted { row, weight })?;
+        }
         Ok(())
     }
 

@@ -1,0 +1,9 @@
+-- The table's entries are those of the dataset.
+use Rattle.std.proofs.Common.{◌++◌, ap}
+use Rattle.weighted_set.specs.Changes.{entries_of}
+use Rattle.weighted_set.proofs.WeightSets.{table_seen}
+use Rattle.weighted_set.proofs.wset.WSet.append_to.Goals as goal
+
+pub loop-row-init : goal.loop-row-init
+loop-row-init c =
+    ap (λ es. entries_of c.args.into.now.items ++ es) (table_seen c.self.inside.table.entries c.into_iter-row-iterator.result c.args.self c.self.invariant c.self.view_is c.into_iter-row-iterator.ensures.into_iter_gives.0)
