@@ -1,0 +1,4 @@
+pub mod Reduced
+pub mod Sorted
+pub mod Steps
+pub mod Listed

@@ -1,0 +1,3 @@
+pub mod Taking
+pub mod Group
+pub mod GroupLaws
