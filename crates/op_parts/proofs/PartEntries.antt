@@ -19,7 +19,7 @@ use Rattle.weighted_set.proofs.Parts.{entries_have_weights}
 
 -- ---- products that are 0
 
-product_other : (q r : Ratio) → q ≢ zero_ratio → r ≢ zero_ratio → ratio_mul q r ≢ zero_ratio
+pub product_other : (q r : Ratio) → q ≢ zero_ratio → r ≢ zero_ratio → ratio_mul q r ≢ zero_ratio
 product_other q r h k e =
     let d = q.den * r.den in
     let over : IsOver (q.num *ℤ r.num) d zero_ratio = subst (IsOver (q.num *ℤ r.num) d) e (over_mul q.num r.num q.den r.den q r (over_itself q) (over_itself r)) in

@@ -2,6 +2,5 @@ mod Differences
 mod Above
 mod Walks
 mod RunPieces
-mod Collected
 mod OneShaved
 mod OwnParts

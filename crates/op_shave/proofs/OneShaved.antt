@@ -30,7 +30,7 @@ use Rattle.op_parts.proofs.Ranges.{weights_in_range-all}
 use Rattle.op_shave.specs.Shave.{shave_fits}
 use Rattle.op_shave.specs.Shavings.{AreShaved, left_in_range, left_of, shavings}
 use Rattle.op_shave.proofs.Above.{AllAbove, above_not_zero, is_below-itself, left_of-more, left_of-none, left_of-taken, not_below, ratio_max-above, ratio_max-none, ratio_min-above, ratio_min-none}
-use Rattle.op_shave.proofs.Collected.{entries-collected, weight_in-in_range}
+use Rattle.op_parts.proofs.Collected.{entries-collected, weight_in-in_range}
 use Rattle.op_shave.proofs.Differences.{above_difference, ratio_sub_add, ratio_sub_zero}
 use Rattle.op_shave.proofs.Walks.{left_in_range-none, shavings-none}
 

@@ -9,9 +9,9 @@ use Rattle.ratios.specs.Ratio.{Ratio}
 use Rattle.ratios.specs.Sums.{ratio_sum}
 use Rattle.ratios.proofs.Additive.{ratio_zero_add}
 use Rattle.datasets.specs.Dataset.{Dataset, dataset_of}
-use Rattle.datasets.specs.Entries.{AreRising, Entries, Row, has_row, rows_of, same_row, weight_in}
+use Rattle.datasets.specs.Entries.{AreRising, Entries, NoneZero, Row, has_row, rows_of, same_row, weight_in}
 use Rattle.datasets.proofs.Counts.{entries-dataset_of, weighing}
-use Rattle.datasets.proofs.Equality.{same_weights}
+use Rattle.datasets.proofs.Equality.{dataset_of-entries, same_weights}
 use Rattle.datasets.proofs.Rows.{same_row-equal}
 use Rattle.datasets.proofs.Weights.{at-dataset_of, weight_in-cons}
 use Rattle.operators.specs.Weights.{collected, weights_at}
@@ -42,6 +42,13 @@ pub entries-collected : (es : Entries) → AreRising (rows_of es) → (collected
 entries-collected es rising =
     ap (λ (A : Dataset). A.entries) (same_weights (collected es) (dataset_of es) (λ z. at-collected es z ∙ sum_at-rising es z rising ∙ sym (at-dataset_of es z)))
     ∙ entries-dataset_of es rising
+
+-- where none of them is 0, all are
+pub entries-collected_whole : (es : Entries) → AreRising (rows_of es) → NoneZero es → (collected es).entries ≡ es
+entries-collected_whole es rising none_zero =
+    entries-collected es rising
+    ∙ sym (entries-dataset_of es rising)
+    ∙ ap (λ (A : Dataset). A.entries) (dataset_of-entries (record { entries = es; rising = rising; none_zero = none_zero }))
 
 -- a weight of entries whose weights are in range
 pub weight_in-in_range : (es : Entries) (z : Row) → AllByRecursion (λ e. InRange e.1) es → InRange (weight_in es z)

@@ -1,0 +1,6 @@
+mod NormSums
+mod Quotients
+mod RisingPairs
+mod ListedPairs
+mod PairLoops
+mod JoinedParts
