@@ -9,6 +9,7 @@ use Rattle.prim_table.specs.Tables.{names1, names2, names3}
 use Rattle.plan_model.specs.declared.expr.Expr.{Expr}
 use Rattle.plan_model.specs.declared.expr.Expr.TheVariants.{Col, Const, One, Two, Three}
 use Rattle.plan_model.specs.Limits.{depth, node_count}
+use Rattle.plan_model.specs.Sizes.{max_column}
 use Rattle.plan_model.specs.Values.{term_of}
 use Rattle.expr_text.specs.declared.fault.Place.{Place}
 use Rattle.expr_text.specs.declared.fault.PlanText.{PlanText}
@@ -21,9 +22,9 @@ use Rattle.plan_model.proofs.Terms.{term_of-Col, term_of-Const, term_of-One, ter
 
 -- ---- the forms of what is written
 
-form_of-col_data : (c : ℕ) → c ≤ 255 → form_of (col_data c) ≡ Some (col_node c)
+form_of-col_data : (c : ℕ) → c ≤ max_column → form_of (col_data c) ≡ Some (col_node c)
 unfolding form_of
-form_of-col_data c h = rw (le-leb c 255 h) refl
+form_of-col_data c h = rw (le-leb c max_column h) refl
 
 form_of-const_data : (atom : Atom) → IsAtom atom → form_of (const_data atom) ≡ Some (const_node atom)
 unfolding form_of
@@ -53,7 +54,7 @@ reads-leaf e d one_deep alone leaf place levels left deep =
     rw (expr_at-node place levels (node_count (term_of e) + left) d (omega (arith, one_deep, deep)) (omega (arith, alone)), less)
     (leaf place (expr_at place (levels - 1)) left)
 
-pub reads-Col : (c : ℕ) → c ≤ 255 → ReadsAs (Col c) (col_data c)
+pub reads-Col : (c : ℕ) → c ≤ max_column → ReadsAs (Col c) (col_data c)
 reads-Col c h = reads-leaf (Col c) (col_data c) (rw term_of-Col refl) (rw term_of-Col refl) (λ place below left. rw (form_of-col_data c h) refl)
 
 pub reads-Const : (atom : Atom) → IsAtom atom → ReadsAs (Const atom) (const_data atom)

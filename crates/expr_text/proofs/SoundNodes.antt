@@ -15,6 +15,7 @@ use Rattle.prim_table.specs.declared.tables.PrimId.{PrimId}
 use Rattle.prim_table.specs.declared.tables.PrimId.TheVariants as prim
 use Rattle.expr_text.specs.Fields.{has_only}
 use Rattle.expr_text.specs.Forms.{Node, col_node, const_node, one_node, two_node, three_node, column_node, text_node, applied, column_of, number_of, text_of, primitive_of, args_of, call_of, form_in, form_of}
+use Rattle.plan_model.specs.Sizes.{max_column}
 
 -- ---- primitives that are found
 
@@ -71,7 +72,7 @@ sound-number None = tt
 sound-number (Some i) = tt
 
 sound-column : (c : ℕ) → IsSound (column_node c)
-sound-column c = elim (nat_le c 255) as (λ b. IsSound (if b then Some (col_node c) else None)) [ true ↦ tt | false ↦ tt ]
+sound-column c = elim (nat_le c max_column) as (λ b. IsSound (if b then Some (col_node c) else None)) [ true ↦ tt | false ↦ tt ]
 
 sound-text : (text : List ℕ) → IsSound (text_node text)
 sound-text text =

@@ -1,5 +1,5 @@
 -- An expression that the walk gives is within the limits of plans.
-use Rattle.std.proofs.Common.{◌≡◌, ℕ, zero, suc, ◌+◌, ◌≤◌, true, Option, Some, None, Result, Ok, refl, arith, is_some, List, [], ◌∷◌}
+use Rattle.std.proofs.Common.{◌≡◌, ℕ, zero, suc, ◌+◌, ◌≤◌, nat_le, true, Option, Some, None, Result, Ok, refl, sym, ap, ◌∙◌, arith, is_some, List, [], ◌∷◌, length}
 use Rattle.std.proofs.Math.Dec.{eqb-suc-zero}
 use Rattle.std.proofs.Math.Numerals.{sub-one}
 use Rattle.std.proofs.lemmas.Bool.{le-leb}
@@ -7,16 +7,20 @@ use Rattle.json_fields.specs.Walk.{each}
 use Rattle.serde_json.specs.Data.{Data}
 use Rattle.plan_model.specs.declared.expr.Expr.{Expr}
 use Rattle.plan_model.specs.declared.expr.Expr.TheVariants.{Col, Const, One, Two, Three}
-use Rattle.plan_model.specs.Limits.{depth, node_count, is_expr, are_exprs}
+use Rattle.plan_model.specs.Limits.{depth, node_count, has_width, is_expr, are_exprs}
+use Rattle.plan_model.specs.Sizes.{max_depth, max_nodes, max_width}
 use Rattle.plan_model.specs.Values.{has_places, term_of}
 use Rattle.prim_table.specs.Tables.{args1, args2, args3}
 use Rattle.record_text.specs.declared.atom.Atom.{Atom}
+use Rattle.expr_text.specs.declared.fault.Limit.TheVariants as limit
 use Rattle.expr_text.specs.declared.fault.Place.{Place}
 use Rattle.expr_text.specs.declared.fault.PlanText.{PlanText}
+use Rattle.expr_text.specs.declared.fault.PlanText.TheVariants as fault
 use Rattle.expr_text.specs.Exprs.{expr_at, node_expr, expr_in, member_in, exprs_in, few}
 use Rattle.expr_text.specs.Fields.{list_in}
 use Rattle.expr_text.specs.Forms.{Node, col_node, const_node, one_node, two_node, three_node, form_of}
 use Rattle.expr_text.proofs.SoundNodes.{IsSound, sound-form_of}
+use Rattle.expr_text.proofs.Walks.{cond_ok, is_size-each, length-each, some-list_in}
 use Rattle.plan_model.proofs.Terms.{term_of-Col, term_of-Const, term_of-One, term_of-Two, term_of-Three}
 use Rattle.json_fields.proofs.Walks.{both_steps}
 
@@ -106,10 +110,10 @@ within-expr_at place (suc levels) (suc nodes) d x e =
 
 pub is_expr-expr_in : (place : Place) (d : Data) (e : Expr) → expr_in place d ≡ Ok e → is_expr e ≡ true
 is_expr-expr_in place d e is =
-    let walked = both_steps (expr_at place 16 256 d) _ e is in
-    let within = within-expr_at place 16 256 d walked.0 walked.1 in
+    let walked = both_steps (expr_at place max_depth max_nodes d) _ e is in
+    let within = within-expr_at place max_depth max_nodes d walked.0 walked.1 in
     let same : walked.0.0 ≡ e = (let last = walked.2 in cc) in
-    rw (← same, le-leb (depth (term_of walked.0.0)) 16 within.deep, le-leb (node_count (term_of walked.0.0)) 256 (omega (arith, within.count)), within.places) refl
+    rw (← same, le-leb (depth (term_of walked.0.0)) max_depth within.deep, le-leb (node_count (term_of walked.0.0)) max_nodes (omega (arith, within.count)), within.places) refl
 
 pub are_exprs-each : (place : Place) (i : ℕ) (ds : List Data) (es : List Expr) → each (member_in place) i ds ≡ Ok es → are_exprs es ≡ true
 are_exprs-each place i [] es e = let none : [] ≡ es = cc in rw (← none) refl
@@ -124,3 +128,12 @@ are_exprs-exprs_in place found es e =
     let list = both_steps (list_in place found) _ es e in
     let members = both_steps (few place list.0) _ es list.2 in
     are_exprs-each place 0 members.0 es members.2
+
+-- a list that the walk gives has 1 to 16 members
+pub has_width-exprs_in : (place : Place) (found : Option Data) (es : List Expr) → exprs_in place found ≡ Ok es → has_width es ≡ true
+has_width-exprs_in place found es e =
+    let list = both_steps (list_in place found) _ es e in
+    let members = both_steps (few place list.0) _ es list.2 in
+    let short = cond_ok (nat_le (length list.0) max_width) list.0 members.0 (fault.Over place.step limit.Width) members.1 in
+    let one_each : length es ≡ length list.0 = length-each (member_in place) 0 members.0 es members.2 ∙ ap length (sym short.1) in
+    is_size-each max_width list.0 es one_each (some-list_in place found list.0 list.1) short.0

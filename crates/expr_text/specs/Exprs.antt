@@ -4,6 +4,7 @@ use Rattle.serde_json.specs.Data.{Data}
 use Rattle.json_fields.specs.Walk.{◌>>=◌, each}
 use Rattle.plan_model.specs.declared.expr.Expr.{Expr}
 use Rattle.plan_model.specs.declared.expr.Expr.TheVariants.{Col, Const, One, Two, Three}
+use Rattle.plan_model.specs.Sizes.{max_depth, max_nodes, max_width}
 use Rattle.expr_text.specs.declared.fault.Limit.TheVariants as limit
 use Rattle.expr_text.specs.declared.fault.Place.{Place}
 use Rattle.expr_text.specs.declared.fault.PlanText.{PlanText}
@@ -40,14 +41,14 @@ expr_at place (suc levels) nodes d =
 -- an expression at most 16 deep and of at most 256 nodes
 abbrev pub expr_in : Place → Data → Result Expr PlanText
 expr_in place d = do
-  x ← expr_at place 16 256 d
+  x ← expr_at place max_depth max_nodes d
   Ok x.0
 
 -- ---- lists
 
 -- at most 16
 abbrev pub few : Place → List Data → Result (List Data) PlanText
-few place ds = if nat_le (length ds) 16 then Ok ds else over place.step limit.Width
+few place ds = if nat_le (length ds) max_width then Ok ds else over place.step limit.Width
 
 -- an expression of a list, which is told its place
 abbrev pub member_in : Place → ℕ → Data → Result Expr PlanText

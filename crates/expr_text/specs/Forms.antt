@@ -6,6 +6,7 @@ use Rattle.serde_json.specs.View.{view}
 use Rattle.json_fields.specs.Fields.{list_of}
 use Rattle.record_text.specs.declared.atom.Atom.{Atom}
 use Rattle.record_text.specs.declared.atom.Atom.TheVariants.{Int, Text}
+use Rattle.plan_model.specs.Sizes.{max_column}
 use Rattle.prim_table.specs.Tables.{found}
 use Rattle.prim_table.specs.declared.tables.PrimId.{PrimId}
 use Rattle.prim_table.specs.declared.tables.PrimId.TheVariants as prim
@@ -25,7 +26,7 @@ pub data Node : Type 0 where
 
 -- the column of this number, 0 to 255
 abbrev pub column_node : ℕ → Option Node
-column_node c = if nat_le c 255 then Some (col_node c) else None
+column_node c = if nat_le c max_column then Some (col_node c) else None
 
 -- the constant of this text, of at most 255 bytes
 abbrev pub text_node : List ℕ → Option Node

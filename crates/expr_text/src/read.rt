@@ -1,6 +1,7 @@
 //! From a value to an expression.
 ghost use Rattle.std.specs.Prelude.{◌≡◌, ◌<◌, ◌≤◌, IfOk, Ok, length, map, option_map};
 ghost use Rattle.serde_json.specs.View.{view};
+ghost use Rattle.plan_model.specs.Sizes.{max_width};
 ghost use Rattle.json_fields.specs.Walk.{each};
 ghost use Rattle.expr_text.specs.Gives.{Gives};
 ghost use Rattle.expr_text.specs.Exprs.{expr_at, expr_in, exprs_in, member_in};
@@ -45,7 +46,7 @@ pub fn exprs(alloc: Global, place: Place, field: Option<&Value>) -> Result<Exprs
 // The expressions of these values.
 fn all_exprs(alloc: Global, place: Place, list: &[Value]) -> Result<Exprs, PlanText>
     requires some { 0 < length list.now }
-    requires few { length list.now ≤ 16 }
+    requires few { length list.now ≤ max_width }
     ensures { Gives result (each (member_in place) 0 (map view list.now)) }
 {
     let mut exprs = Vec::with_capacity(alloc, list.len())?;

@@ -20,7 +20,7 @@ use Rattle.plan_model.proofs.Positions.{is_some-position, position_found, positi
 use Rattle.plan_model.proofs.StepLaws.{inputs_are_earlier}
 use Rattle.plan_model.proofs.AcceptedTypes.{accepted_is_typed}
 use Rattle.plan_model.proofs.StepByStep.{length-step_by_step_after}
-use Rattle.plan_model.specs.Acceptance.{knows_source, matches_kinds, step_has_kinds}
+use Rattle.plan_model.specs.Acceptance.{knows_source, matches_kinds, reads_columns, step_has_columns, step_has_kinds}
 use Rattle.plan_model.specs.Evaluation.{Family, eval, eval_step, evals as plan_evals, last_or}
 use Rattle.plan_model.specs.Fits.{misfit, step_fits as plan_step_fits}
 use Rattle.plan_model.specs.Inputs.{of_left, of_right}
@@ -56,6 +56,11 @@ knows_at types (t ∷ ss) (suc i) s at known = knows_at types ss i s at known.1
 pub kinds-of_steps : (types : List SourceType) (s : Step) (cs : List (List Kind)) → step_has_kinds types s cs ≡ true → matches_kinds s (of_left [] cs s) (of_right [] cs s) ≡ true
 kinds-of_steps types (Step.Source name) cs typed = refl
 kinds-of_steps types s cs typed = typed
+
+-- and it reads columns of theirs
+pub columns-of_steps : (types : List SourceType) (s : Step) (cs : List (List Kind)) → step_has_columns types s cs ≡ true → reads_columns s (of_left [] cs s) (of_right [] cs s) ≡ true
+columns-of_steps types (Step.Source name) cs within = refl
+columns-of_steps types s cs within = within
 
 -- each step names a known source, and its inputs have the kinds that it needs
 module _ (plan : List Step) (types : List SourceType) (kept : IsKept plan types) (i : ℕ) (s : Step) (at : slice_get plan i ≡ Some s) where

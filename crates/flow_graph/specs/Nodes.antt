@@ -1,4 +1,8 @@
 -- What the node of a step means and holds.
+use Rattle.op_groupby.specs.contracts.group.GroupOpPartOp.TheImpl as group_part_op
+use Rattle.op_groupby.specs.declared.group.GroupOp.{GroupOp}
+use Rattle.op_join.specs.contracts.join.JoinOpPartOp.TheImpl as join_part_op
+use Rattle.op_join.specs.declared.join.JoinOp.{JoinOp}
 use Rattle.op_linear.specs.contracts.filter.FilterOpPartOp.TheImpl as filter_part_op
 use Rattle.op_linear.specs.contracts.many.ManyOpPartOp.TheImpl as many_part_op
 use Rattle.op_linear.specs.contracts.select.SelectOpPartOp.TheImpl as select_part_op
@@ -17,7 +21,7 @@ use Rattle.flow_graph.specs.declared.node.NodeOf.{NodeOf}
 
 -- the node of a step
 abbrev pub Node : Type 0
-Node = NodeOf (Keyed FilterOp) (Keyed SelectOp) (Keyed ManyOp) (Keyed ShaveOp) (Keyed SetOp)
+Node = NodeOf (Keyed FilterOp) (Keyed SelectOp) (Keyed ManyOp) (Keyed ShaveOp) (Keyed SetOp) (Keyed JoinOp) (Keyed GroupOp)
 
 -- what the node of a step means and holds
 abbrev pub node_standing : Node → Standing
@@ -27,3 +31,5 @@ node_standing =
     (λ k. keyed_standing many_part_op.ghosts k.op k.left k.right k.pending)
     (λ k. keyed_standing shave_part_op.ghosts k.op k.left k.right k.pending)
     (λ k. keyed_standing set_part_op.ghosts k.op k.left k.right k.pending)
+    (λ k. keyed_standing join_part_op.ghosts k.op k.left k.right k.pending)
+    (λ k. keyed_standing group_part_op.ghosts k.op k.left k.right k.pending)

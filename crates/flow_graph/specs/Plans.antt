@@ -15,12 +15,11 @@ use Rattle.weighted_set.specs.Held.{AllInRange}
 use Rattle.weighted_set.specs.Parts.{StoreParts}
 use Rattle.weighted_set.specs.Standing.{Standing}
 use Rattle.weighted_set.specs.declared.weighted.Change.{Change}
-use Rattle.flow_graph.specs.Steps.{have_nodes, plan_meanings, plan_wires}
+use Rattle.flow_graph.specs.Steps.{plan_meanings, plan_wires}
 
--- a plan of steps that can be kept up to date, which is accepted for these sources
+-- a plan that is accepted for these sources
 pub record IsKept (plan : List Step) (types : List SourceType) : Type 0 where
   pub steps : IsTrue (is_plan plan)
-  pub nodes : IsTrue (have_nodes plan)
   pub accepted : Accepts plan types
 
 -- the family keeps the types, its weights are in range, and it fits the plan

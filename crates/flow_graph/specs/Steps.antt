@@ -1,6 +1,5 @@
 -- The wires of a plan's steps, and what their operators mean.
-use Rattle.std.specs.Prelude.{ℕ, Bool, ◌&&◌, false, true, List, [], ◌∷◌, Option, None, Some, map}
-use Rattle.std.specs.List.{list_all}
+use Rattle.std.specs.Prelude.{ℕ, Bool, ◌&&◌, false, List, [], ◌∷◌, Option, None, Some, map}
 use Rattle.std.specs.Option.{unwrap_or}
 use Rattle.dataflow.specs.declared.wire.Wire.{Wire}
 use Rattle.dataflow.specs.declared.wire.Wire.TheVariants.{Source, Of}
@@ -28,15 +27,6 @@ wire_from (left ∷ right ∷ more) = Of left (Some right)
 abbrev pub wire_of : List SourceType → Step → Wire
 wire_of types (Step.Source name) = Source (unwrap_or (place_of name types) 0)
 wire_of types s = wire_from (inputs s)
-
--- the operators that can be kept up to date: all but join and group
-abbrev pub has_node : Step → Bool
-has_node (Step.Join left right left_key right_key) = false
-has_node (Step.Group of key reduce) = false
-has_node _ = true
-
-abbrev pub have_nodes : List Step → Bool
-have_nodes plan = list_all has_node plan
 
 -- the inputs A and B of a step have the columns of its left and its right input; a source has no inputs
 abbrev pub takes_inputs : Step → List Kind → List Kind → Dataset → Dataset → Bool

@@ -1,12 +1,11 @@
 //! Graphs of plans, built from what their sources hold.
-ghost use Rattle.std.specs.Prelude.{◌≡◌, ℕ, IfErr, IfOk, IsTrue, Some, false};
+ghost use Rattle.std.specs.Prelude.{◌≡◌, ℕ, IfErr, IfOk, Some, false};
 ghost use Rattle.dataflow.specs.declared.passes.GraphFault.TheVariants as fault;
 ghost use Rattle.plan_model.specs.Acceptance.{Accepts};
 ghost use Rattle.plan_model.specs.Fits.{misfit};
 ghost use Rattle.plan_model.specs.Types.{Keeps};
 ghost use Rattle.flow_graph.specs.Fresh.{committed_family};
 ghost use Rattle.flow_graph.specs.Graphs.{IsGraphOf, StandsFor};
-ghost use Rattle.flow_graph.specs.Steps.{have_nodes};
 
 use crate::flow::FlowGraph;
 use crate::fresh::nodes_of;
@@ -19,7 +18,7 @@ use steps::Steps;
 use weighted_set::{PartStore, SourceSet};
 
 impl FlowGraph {
-    /// The graph of an accepted plan without join and group, on the committed rows of its sources, with nothing
+    /// The graph of an accepted plan, on the committed rows of its sources, with nothing
     /// pending. `Range` names the first step that doesn't fit them.
     pub fn build<L: Ledger>(
         alloc: Global,
@@ -28,7 +27,6 @@ impl FlowGraph {
         sources: &SourceSet,
         steps: &mut Steps<L>,
     ) -> Result<FlowGraph, GraphFault>
-        requires nodes { IsTrue (have_nodes plan.now) }
         requires accepted { Accepts plan.now types.now }
         requires keeps { Keeps types.now (committed_family sources.now) }
         ensures graph { IfOk result (λ graph. IsGraphOf graph plan.now types.now) }

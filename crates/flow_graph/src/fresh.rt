@@ -1,6 +1,6 @@
 //! What the steps of a plan keep while its sources have no rows.
 ghost use Rattle.std.specs.Prelude.{◌≡◌, IfOk, IsTrue, [], length, nat_le, true};
-ghost use Rattle.plan_model.specs.Acceptance.{matches_kinds};
+ghost use Rattle.plan_model.specs.Acceptance.{matches_kinds, reads_columns};
 ghost use Rattle.plan_model.specs.Inputs.{of_left, of_right};
 ghost use Rattle.plan_model.specs.Limits.{is_step};
 ghost use Rattle.plan_model.specs.Sizes.{max_width};
@@ -8,11 +8,13 @@ ghost use Rattle.plan_model.specs.Types.{output_columns};
 ghost use Rattle.flow_graph.specs.Fresh.{AreFresh, IsFresh};
 ghost use Rattle.flow_graph.specs.Nodes.{node_standing};
 ghost use Rattle.flow_graph.specs.Plans.{IsKept};
-ghost use Rattle.flow_graph.specs.Steps.{has_node, plan_meanings, step_meaning};
+ghost use Rattle.flow_graph.specs.Steps.{plan_meanings, step_meaning};
 
 use crate::Memory;
 use crate::node::{Node, NodeOf};
 use engines::Keyed;
+use op_groupby::GroupOp;
+use op_join::JoinOp;
 use op_linear::{FilterOp, ManyOp, SelectOp};
 use op_setwise::SetOp;
 use op_shave::ShaveOp;
@@ -24,7 +26,7 @@ use std::alloc::Global;
 // What a step keeps while its inputs have no rows, from the columns of the steps before.
 fn node_of(alloc: Global, step: &Step, columns: &[Kinds]) -> Result<Node, Memory>
     requires step { IsTrue (is_step (length columns.now) step.now) }
-    requires node { has_node step.now ≡ true }
+    requires columns { reads_columns step.now (of_left [] columns.now step.now) (of_right [] columns.now step.now) ≡ true }
     requires kinds { matches_kinds step.now (of_left [] columns.now step.now) (of_right [] columns.now step.now) ≡ true }
     requires narrow { nat_le (length (output_columns step.now (of_left [] columns.now step.now) (of_right [] columns.now step.now))) max_width ≡ true }
     ensures { IfOk result (λ node. IsFresh (node_standing node) (step_meaning columns.now step.now)) }
@@ -56,8 +58,23 @@ fn node_of(alloc: Global, step: &Step, columns: &[Kinds]) -> Result<Node, Memory
             let set = SetOp::new(*kind, columns[*left]);
             Ok(NodeOf::Set(Keyed::new(set, alloc)))
         }
+        Step::Join {
+            left,
+            right,
+            left_key,
+            right_key,
+        } => {
+            let left_key = left_key.try_copy(alloc)?;
+            let right_key = right_key.try_copy(alloc)?;
+            let join = JoinOp::new(left_key, right_key, columns[*left], columns[*right], alloc);
+            Ok(NodeOf::Join(Keyed::new(join, alloc)))
+        }
+        Step::Group { of, key, reduce } => {
+            let key = key.try_copy(alloc)?;
+            let group = GroupOp::new(key, *reduce, columns[*of]);
+            Ok(NodeOf::Group(Keyed::new(group, alloc)))
+        }
         Step::Source { .. } => Ok(NodeOf::Source),
-        Step::Join { .. } | Step::Group { .. } => unreachable!(),
     }
 }
 

@@ -2,6 +2,8 @@
 ghost use Rattle.flow_graph.specs.NodesBy.{node_by, node_keeps_range};
 
 use engines::Keyed;
+use op_groupby::GroupOp;
+use op_join::JoinOp;
 use op_linear::{FilterOp, ManyOp, SelectOp};
 use op_setwise::SetOp;
 use op_shave::ShaveOp;
@@ -11,13 +13,15 @@ use weighted_set::{Change, OpFault, Operator};
 
 /// What a step keeps. A source keeps nothing, and is never prepared.
 #[derive(Drop)]
-pub enum NodeOf<F, S, M, H, E> {
+pub enum NodeOf<F, S, M, H, E, J, G> {
     Source,
     Filter(F),
     Select(S),
     Many(M),
     Shave(H),
     Set(E),
+    Join(J),
+    Group(G),
 }
 
 /// What a step keeps.
@@ -27,11 +31,20 @@ pub type Node = NodeOf<
     Keyed<ManyOp>,
     Keyed<ShaveOp>,
     Keyed<SetOp>,
+    Keyed<JoinOp>,
+    Keyed<GroupOp>,
 >;
 
-impl<F: Operator, S: Operator, M: Operator, H: Operator, E: Operator> Operator
-    for NodeOf<F, S, M, H, E> {
-    ghost standing = { node_by F.standing S.standing M.standing H.standing E.standing };
+impl<
+    F: Operator,
+    S: Operator,
+    M: Operator,
+    H: Operator,
+    E: Operator,
+    J: Operator,
+    G: Operator,
+> Operator for NodeOf<F, S, M, H, E, J, G> {
+    ghost standing = { node_by F.standing S.standing M.standing H.standing E.standing J.standing G.standing };
 
     fn prepare<L: Ledger>(
         &mut self,
@@ -47,6 +60,8 @@ impl<F: Operator, S: Operator, M: Operator, H: Operator, E: Operator> Operator
             NodeOf::Many(keyed) => keyed.prepare(left, right, out, steps),
             NodeOf::Shave(keyed) => keyed.prepare(left, right, out, steps),
             NodeOf::Set(keyed) => keyed.prepare(left, right, out, steps),
+            NodeOf::Join(keyed) => keyed.prepare(left, right, out, steps),
+            NodeOf::Group(keyed) => keyed.prepare(left, right, out, steps),
         }
     }
 
@@ -58,6 +73,8 @@ impl<F: Operator, S: Operator, M: Operator, H: Operator, E: Operator> Operator
             NodeOf::Many(keyed) => keyed.commit(),
             NodeOf::Shave(keyed) => keyed.commit(),
             NodeOf::Set(keyed) => keyed.commit(),
+            NodeOf::Join(keyed) => keyed.commit(),
+            NodeOf::Group(keyed) => keyed.commit(),
         }
     }
 
@@ -69,8 +86,10 @@ impl<F: Operator, S: Operator, M: Operator, H: Operator, E: Operator> Operator
             NodeOf::Many(keyed) => keyed.abort(),
             NodeOf::Shave(keyed) => keyed.abort(),
             NodeOf::Set(keyed) => keyed.abort(),
+            NodeOf::Join(keyed) => keyed.abort(),
+            NodeOf::Group(keyed) => keyed.abort(),
         }
     }
 
-    ghost in_range = { node_keeps_range F.standing S.standing M.standing H.standing E.standing F.in_range S.in_range M.in_range H.in_range E.in_range };
+    ghost in_range = { node_keeps_range F.standing S.standing M.standing H.standing E.standing J.standing G.standing F.in_range S.in_range M.in_range H.in_range E.in_range J.in_range G.in_range };
 }

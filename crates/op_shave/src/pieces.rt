@@ -4,6 +4,7 @@ ghost use Rattle.std.specs.List.{list_all};
 ghost use Rattle.operators.specs.Operators.{numbered};
 ghost use Rattle.plan_model.specs.Limits.{is_run};
 ghost use Rattle.plan_model.specs.Pieces.{piece_count};
+ghost use Rattle.plan_model.specs.Sizes.{max_pieces, max_width};
 ghost use Rattle.ratios.specs.Range.{InRange, checked};
 ghost use Rattle.ratios.specs.Ratio.{is_below, zero_ratio};
 ghost use Rattle.weighted_set.specs.declared.part_op.OpFault.TheVariants as fault;
@@ -42,7 +43,7 @@ fn left_of(weight: Frac, piece: Frac) -> Option<Frac>
 
 // The row followed by a place.
 fn numbered(alloc: Global, row: &Row, place: u32) -> Result<Row, Memory>
-    requires { length row.now < 16 }
+    requires { length row.now < max_width }
     ensures { IfOk result (λ made. made ≡ numbered (row.now, place)) }
 {
     let mut atoms = Vec::with_capacity(alloc, row.len() + 1)?;
@@ -56,7 +57,7 @@ fn numbered(alloc: Global, row: &Row, place: u32) -> Result<Row, Memory>
 
 // Appends the row followed by a place, with the weight of a piece.
 fn push_piece(row: &Row, place: u32, weight: Frac, into: &mut Vec<Weighted>) -> Result<(), Memory>
-    requires { length row.now < 16 }
+    requires { length row.now < max_width }
     ensures ok { OnOk result (Appends into.old.items ((numbered (row.now, place), weight) ∷ []) into.new.items) }
     ensures in_range { InRange weight }
 {
@@ -76,8 +77,8 @@ fn push_run(
     weight: Frac,
     into: &mut Vec<Weighted>,
 ) -> Result<Option<Frac>, OpFault>
-    requires narrow { length row.now < 16 }
-    requires few { place + run.times ≤ 4096 }
+    requires narrow { length row.now < max_width }
+    requires few { place + run.times ≤ max_pieces }
     ensures ok { IfOk result (RunIsShaved row.now place run weight into.old.items into.new.items) }
     ensures range { IfErr result (λ e. e ≡ fault.Range → left_in_range (run_pieces run) weight ≡ false) }
 {
@@ -104,9 +105,9 @@ pub fn push_pieces(
     runs: &Runs,
     into: &mut Vec<Weighted>,
 ) -> Result<(), OpFault>
-    requires narrow { length row.now < 16 }
+    requires narrow { length row.now < max_width }
     requires runs { IsTrue (list_all is_run runs.now) }
-    requires few { piece_count runs.now ≤ 4096 }
+    requires few { piece_count runs.now ≤ max_pieces }
     ensures ok { OnOk result (Appends into.old.items (shaved_row runs.now row.now weight).entries into.new.items) }
     ensures fits { OnOk result (row_fits runs.now row.now weight ≡ true) }
     ensures range { IfErr result (λ e. e ≡ fault.Range → row_fits runs.now row.now weight ≡ false) }

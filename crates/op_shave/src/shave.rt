@@ -5,6 +5,7 @@ ghost use Rattle.operators.specs.Operators.{shaved};
 ghost use Rattle.plan_model.specs.Evaluation.{pieces};
 ghost use Rattle.plan_model.specs.Limits.{is_run};
 ghost use Rattle.plan_model.specs.Pieces.{piece_count};
+ghost use Rattle.plan_model.specs.Sizes.{max_pieces, max_width};
 ghost use Rattle.plan_model.specs.Types.{HasColumns};
 ghost use Rattle.op_parts.specs.Takes.{HasOnly, LeftHasColumns, has_columns};
 ghost use Rattle.op_parts.proofs.Takes.{columns_told, takes_row};
@@ -34,6 +35,7 @@ impl Model for ShaveOp {
     ghost use Rattle.std.specs.List.{list_all};
     ghost use Rattle.plan_model.specs.Limits.{is_run};
     ghost use Rattle.plan_model.specs.Pieces.{piece_count};
+    ghost use Rattle.plan_model.specs.Sizes.{max_pieces, max_width};
     ghost use Rattle.plan_model.specs.contracts.step.Run as run;
     ghost use Rattle.op_shave.specs.Shave.{ShaveParts};
 
@@ -43,15 +45,15 @@ impl Model for ShaveOp {
 
     ghost view = { λ op. record { runs = op.runs; cols = op.cols } };
 
-    ghost invariant = { λ op. IsTrue (list_all is_run op.runs) × (piece_count op.runs ≤ 4096) × (length op.cols < 16) };
+    ghost invariant = { λ op. IsTrue (list_all is_run op.runs) × (piece_count op.runs ≤ max_pieces) × (length op.cols < max_width) };
 }
 
 impl ShaveOp {
     /// The pieces of the runs, for rows with these columns: at most 15 of them, since an output row has one more.
     pub fn new(runs: Runs, cols: Kinds) -> ShaveOp
         requires runs { IsTrue (list_all is_run runs) }
-        requires few { piece_count runs ≤ 4096 }
-        requires narrow { length cols < 16 }
+        requires few { piece_count runs ≤ max_pieces }
+        requires narrow { length cols < max_width }
         ensures { result ≡ record { runs = runs; cols = cols } }
     {
         ShaveOp { runs, cols }

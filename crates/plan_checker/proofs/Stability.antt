@@ -18,7 +18,8 @@ use Rattle.plan_model.specs.declared.source_types.SourceType.{SourceType}
 use Rattle.plan_model.specs.declared.step.Step.{Step}
 use Rattle.plan_model.specs.Acceptance.{Accepts, fault_after, may_group}
 use Rattle.plan_model.specs.Evaluation.{Family, dataset_at, eval_at, eval_step, evals, last_or, left_dataset, right_dataset, step_by_step}
-use Rattle.plan_model.specs.Limits.{are_steps, is_plan}
+use Rattle.plan_model.specs.Limits.{are_steps, is_plan, is_size}
+use Rattle.plan_model.specs.Sizes.{max_steps}
 use Rattle.plan_model.specs.Sources.{place_of}
 use Rattle.plan_model.specs.Types.{Keeps, columns, left_sign, signs}
 use Rattle.plan_model.specs.Uses.{count_at, is_place, uses, uses_at, uses_of_steps, uses_step}
@@ -149,7 +150,8 @@ some_step (s ∷ ss) h = (length ss, refl)
 pub plan_is_stable : (p : List Step) (types : List SourceType) → is_plan p ≡ true → Accepts p types → IsStable p types (map (uses p types) (range_with_len 0 (length types)))
 plan_is_stable p types plan accepts F G keeps_first keeps_second =
     let limits = and_parts _ (are_steps 0 p) plan in
-    let some = some_step p (and_parts (nat_le 1 (length p)) _ limits.0).0 in
+    let sizes = and_parts (is_size max_steps (length p)) _ limits.0 in
+    let some = some_step p (and_parts (nat_le 1 (length p)) _ sizes.0).0 in
     let n = some.0 in
     let at_last = stable_at types F G keeps_first keeps_second p accepts (lawful_steps 0 p limits.1) n in
     (same_then (ap₂ dist (last_made (eval_step types F) empty p n some.1) (last_made (eval_step types G) empty p n some.1))

@@ -2,6 +2,7 @@
 ghost use Rattle.std.specs.Prelude.{◌≡◌, ◌<◌, ◌≤◌, ◌+◌, ◌++◌, ◌∷◌, [], IsTrue, length, slice_get, true};
 ghost use Rattle.plan_model.specs.Acceptance.{is_narrow, knows_source, step_has_columns};
 ghost use Rattle.plan_model.specs.Limits.{is_step};
+ghost use Rattle.plan_model.specs.Sizes.{max_width};
 ghost use Rattle.plan_model.specs.Types.{columns_step, reducer_kind, set_sign, sign_step};
 ghost use Rattle.plan_checker.specs.Steps.{reducer_has_columns};
 
@@ -26,7 +27,7 @@ fn at_either(left: Kinds, right: Kinds, i: usize) -> Kind
 
 // The columns of both, one list after the other.
 fn appended(left: Kinds, right: Kinds) -> Kinds
-    requires { length left + length right ≤ 16 }
+    requires { length left + length right ≤ max_width }
     ensures { result ≡ left ++ right }
 {
     let mut kinds = [Kind::Int; MAX_WIDTH];
@@ -39,7 +40,7 @@ fn appended(left: Kinds, right: Kinds) -> Kinds
 
 // The columns and one more.
 fn with_one_more(cols: Kinds, kind: Kind) -> Kinds
-    requires { length cols < 16 }
+    requires { length cols < max_width }
     ensures { result ≡ cols ++ kind ∷ [] }
 {
     appended(cols, Kinds::from_slice(&[kind]))

@@ -6,6 +6,8 @@ use Rattle.plan_model.specs.declared.expr.Expr.{Expr}
 use Rattle.plan_model.specs.declared.step.Item.{Item}
 use Rattle.plan_model.specs.declared.step.Run.{Run}
 use Rattle.plan_model.specs.declared.step.Step.{Step}
+use Rattle.plan_model.specs.Pieces.{piece_count}
+use Rattle.plan_model.specs.Sizes.{max_depth, max_items, max_nodes, max_pieces, max_steps, max_width}
 use Rattle.plan_model.specs.Values.{Term, col, const, one, two, three, has_places, term_of}
 
 -- ---- expressions
@@ -28,7 +30,7 @@ node_count (three p a b c) = suc (node_count a + node_count b + node_count c)
 
 -- at most 16 deep, at most 256 nodes, and every primitive at a place of its table
 abbrev pub is_expr : Expr → Bool
-is_expr e = nat_le (depth (term_of e)) 16 && nat_le (node_count (term_of e)) 256 && has_places (term_of e)
+is_expr e = nat_le (depth (term_of e)) max_depth && nat_le (node_count (term_of e)) max_nodes && has_places (term_of e)
 
 abbrev pub are_exprs : List Expr → Bool
 are_exprs es = list_all is_expr es
@@ -69,6 +71,30 @@ abbrev pub are_steps : ℕ → List Step → Bool
 are_steps at [] = true
 are_steps at (s ∷ ss) = is_step at s && are_steps (at + 1) ss
 
--- 1 to 64 steps, each as above
+-- ---- sizes
+
+-- from 1 to so many
+abbrev pub is_size : ℕ → ℕ → Bool
+is_size most n = nat_le 1 n && nat_le n most
+
+-- 1 to 16 expressions
+abbrev pub has_width : List Expr → Bool
+has_width es = is_size max_width (length es)
+
+-- each list of the step is as long as it may be: 1 to 16 expressions, 1 to 64 items, and one run or more, with at
+-- most 4,096 pieces
+abbrev pub has_sizes : Step → Bool
+has_sizes (Step.Source name) = true
+has_sizes (Step.Filter of test) = true
+has_sizes (Step.Select of row) = has_width row
+has_sizes (Step.Many of over items) = is_size max_items (length items) && list_all (λ i. has_width i.row) items
+has_sizes (Step.Shave of runs) = nat_le 1 (length runs) && nat_le (piece_count runs) max_pieces
+has_sizes (Step.Set kind left right) = true
+has_sizes (Step.Join left right left_key right_key) = has_width left_key && has_width right_key
+has_sizes (Step.Group of key reduce) = has_width key
+
+-- ---- plans
+
+-- 1 to 64 steps, each as above at its place
 abbrev pub is_plan : List Step → Bool
-is_plan steps = nat_le 1 (length steps) && nat_le (length steps) 64 && are_steps 0 steps
+is_plan steps = is_size max_steps (length steps) && list_all has_sizes steps && are_steps 0 steps

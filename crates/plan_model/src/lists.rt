@@ -1,6 +1,7 @@
 //! The lists that steps hold.
 ghost use Rattle.std.specs.Prelude.{◌≡◌, ◌<◌, ◌≤◌, IfOk, length, slice_get};
 ghost use Rattle.plan_model.specs.Pieces.{piece_count};
+ghost use Rattle.plan_model.specs.Sizes.{max_items, max_pieces, max_width};
 
 use crate::expr::Expr;
 use crate::step::{Item, Run};
@@ -17,6 +18,7 @@ pub struct Exprs {
 impl Model for Exprs {
     ghost use Rattle.std.specs.Coded.{codes};
     ghost use Rattle.std.specs.Prelude.{◌<◌, ◌≤◌, List, length};
+    ghost use Rattle.plan_model.specs.Sizes.{max_width};
     ghost use Rattle.plan_model.specs.contracts.expr.Expr as expr;
     ghost use Rattle.plan_model.specs.declared.expr.Expr.{Expr};
 
@@ -26,14 +28,14 @@ impl Model for Exprs {
 
     ghost view = { λ exprs. exprs.list.items };
 
-    ghost invariant = { λ exprs. (0 < length exprs.list.items) × (length exprs.list.items ≤ 16) };
+    ghost invariant = { λ exprs. (0 < length exprs.list.items) × (length exprs.list.items ≤ max_width) };
 }
 
 impl Exprs {
     /// The list of these expressions, 1 to 16 of them.
     pub fn from_vec(list: Vec<Expr>) -> Exprs
         requires some { 0 < length list.items }
-        requires few { length list.items ≤ 16 }
+        requires few { length list.items ≤ max_width }
         ensures { result ≡ list.items }
     {
         Exprs { list }
@@ -43,7 +45,7 @@ impl Exprs {
     pub fn len(&self) -> usize
         ensures value { result ≡ length self.now }
         ensures some { 0 < result }
-        ensures few { result ≤ 16 }
+        ensures few { result ≤ max_width }
     {
         self.list.len()
     }
@@ -78,6 +80,7 @@ pub struct Items {
 impl Model for Items {
     ghost use Rattle.std.specs.Coded.{codes};
     ghost use Rattle.std.specs.Prelude.{◌<◌, ◌≤◌, List, length};
+    ghost use Rattle.plan_model.specs.Sizes.{max_items};
     ghost use Rattle.plan_model.specs.contracts.step.Item as item;
     ghost use Rattle.plan_model.specs.declared.step.Item.{Item};
 
@@ -87,14 +90,14 @@ impl Model for Items {
 
     ghost view = { λ items. items.list.items };
 
-    ghost invariant = { λ items. (0 < length items.list.items) × (length items.list.items ≤ 64) };
+    ghost invariant = { λ items. (0 < length items.list.items) × (length items.list.items ≤ max_items) };
 }
 
 impl Items {
     /// The list of these items, 1 to 64 of them.
     pub fn from_vec(list: Vec<Item>) -> Items
         requires some { 0 < length list.items }
-        requires few { length list.items ≤ 64 }
+        requires few { length list.items ≤ max_items }
         ensures { result ≡ list.items }
     {
         Items { list }
@@ -104,7 +107,7 @@ impl Items {
     pub fn len(&self) -> usize
         ensures value { result ≡ length self.now }
         ensures some { 0 < result }
-        ensures few { result ≤ 64 }
+        ensures few { result ≤ max_items }
     {
         self.list.len()
     }
@@ -140,6 +143,7 @@ impl Model for Runs {
     ghost use Rattle.std.specs.Coded.{codes};
     ghost use Rattle.std.specs.Prelude.{◌<◌, ◌≤◌, List, length};
     ghost use Rattle.plan_model.specs.Pieces.{piece_count};
+    ghost use Rattle.plan_model.specs.Sizes.{max_pieces};
     ghost use Rattle.plan_model.specs.contracts.step.Run as run;
     ghost use Rattle.plan_model.specs.declared.step.Run.{Run};
 
@@ -149,14 +153,14 @@ impl Model for Runs {
 
     ghost view = { λ runs. runs.list.items };
 
-    ghost invariant = { λ runs. (0 < length runs.list.items) × (piece_count runs.list.items ≤ 4096) };
+    ghost invariant = { λ runs. (0 < length runs.list.items) × (piece_count runs.list.items ≤ max_pieces) };
 }
 
 impl Runs {
     /// The list of these runs, one or more, with at most 4,096 pieces together.
     pub fn from_vec(list: Vec<Run>) -> Runs
         requires some { 0 < length list.items }
-        requires few { piece_count list.items ≤ 4096 }
+        requires few { piece_count list.items ≤ max_pieces }
         ensures { result ≡ list.items }
     {
         Runs { list }
@@ -166,7 +170,7 @@ impl Runs {
     pub fn len(&self) -> usize
         ensures value { result ≡ length self.now }
         ensures some { 0 < result }
-        ensures few { piece_count self.now ≤ 4096 }
+        ensures few { piece_count self.now ≤ max_pieces }
     {
         self.list.len()
     }

@@ -10,6 +10,7 @@ use Rattle.json_fields.specs.Walk.{each}
 use Rattle.plan_model.specs.declared.expr.Expr.{Expr}
 use Rattle.plan_model.specs.declared.step.Item.{Item}
 use Rattle.plan_model.specs.Limits.{is_expr, are_exprs, is_guard, is_item, max_item_weight}
+use Rattle.plan_model.specs.Sizes.{max_items}
 use Rattle.expr_text.specs.declared.fault.Place.{Place}
 use Rattle.expr_text.specs.Written.{ReadsAs, ListReadsAs}
 use Rattle.expr_text.proofs.ListsReadBack.{reads-expr_in}
@@ -58,9 +59,9 @@ is_item-at (x ∷ is) zero i all found =
 is_item-at (x ∷ is) (suc n) i all found = is_item-at is n i (and_parts (is_item x) (list_all is_item is) all).1 found
 
 -- 1 to 64 values, each of which is walked as an item
-pub reads-items : (is : List Item) (ds : List Data) → 0 < length is → length is ≤ 64 → ((p : Place) → each (item_at p) 0 ds ≡ Ok is) →
+pub reads-items : (is : List Item) (ds : List Data) → 0 < length is → length is ≤ max_items → ((p : Place) → each (item_at p) 0 ds ≡ Ok is) →
     ItemsReadAs is (array (items_of ds))
 unfolding items_in
 reads-items is ds some few read p =
     let len : length is ≡ length ds = length-each (item_at p) 0 ds is (read p) in
-    rw (data_list-items_of ds, lt-ltb 0 (length ds) (omega arith), le-leb (length ds) 64 (omega arith), read p) refl
+    rw (data_list-items_of ds, lt-ltb 0 (length ds) (omega arith), le-leb (length ds) max_items (omega arith), read p) refl

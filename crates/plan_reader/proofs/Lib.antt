@@ -4,5 +4,6 @@ pub mod BuiltRuns
 pub mod BuiltSteps
 pub mod ItemsReadBack
 pub mod RunsReadBack
+pub mod ReducersReadBack
 pub mod StepsReadBack
 pub mod StepsAfter

@@ -6,6 +6,7 @@ use Rattle.json_fields.specs.Walk.{◌>>=◌, each}
 use Rattle.plan_model.specs.declared.expr.Expr.{Expr}
 use Rattle.plan_model.specs.declared.step.Item.{Item}
 use Rattle.plan_model.specs.Limits.{max_item_weight}
+use Rattle.plan_model.specs.Sizes.{max_items}
 use Rattle.expr_text.specs.declared.fault.Limit.TheVariants as limit
 use Rattle.expr_text.specs.declared.fault.Place.{Place}
 use Rattle.expr_text.specs.declared.fault.PlanText.{PlanText}
@@ -45,7 +46,7 @@ item_at p i d = item_in p d
 
 -- at most 64
 abbrev pub few_items : Place → List Data → Result (List Data) PlanText
-few_items p ds = if nat_le (length ds) 64 then Ok ds else over p.step limit.Items
+few_items p ds = if nat_le (length ds) max_items then Ok ds else over p.step limit.Items
 
 -- 1 to 64 items
 unfoldable pub items_in : Place → Option Data → Result (List Item) PlanText

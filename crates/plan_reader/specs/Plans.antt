@@ -1,21 +1,21 @@
 -- The plan that a value denotes, or the first fault of its walk.
-use Rattle.std.specs.Prelude.{ℕ, nat_le, List, [], ◌∷◌, ◌++◌, length, Bool, codes, if◌then◌else◌, Result, Ok}
-use Rattle.std.specs.List.{list_all}
+use Rattle.std.specs.Prelude.{ℕ, nat_le, List, [], ◌∷◌, ◌++◌, length, codes, if◌then◌else◌, Result, Ok}
 use Rattle.serde_json.specs.Data.{Data}
 use Rattle.serde_json.specs.Find.{get, as_object}
 use Rattle.json_fields.specs.Walk.{◌>>=◌}
 use Rattle.plan_model.specs.declared.step.Step.{Step}
+use Rattle.plan_model.specs.Sizes.{max_steps}
 use Rattle.expr_text.specs.declared.fault.Field.TheVariants as field
 use Rattle.expr_text.specs.declared.fault.Limit.TheVariants as limit
 use Rattle.expr_text.specs.declared.fault.PlanText.{PlanText}
 use Rattle.expr_text.specs.Gives.{over}
 use Rattle.expr_text.specs.Fields.{place, or_shape, list_in}
 use Rattle.plan_reader.specs.Fields.{no_other, format_in}
-use Rattle.plan_reader.specs.Steps.{step_in, is_built_step}
+use Rattle.plan_reader.specs.Steps.{step_in}
 
 -- at most 64 steps
 abbrev pub few : List Data → Result (List Data) PlanText
-few ds = if nat_le (length ds) 64 then Ok ds else over 64 limit.Steps
+few ds = if nat_le (length ds) max_steps then Ok ds else over max_steps limit.Steps
 
 -- the steps of these values, behind those that were read before, which each step's walk is handed
 abbrev pub steps_after : List Step → List Data → Result (List Step) PlanText
@@ -38,7 +38,3 @@ plan_walk d = do
   known ← no_other 0 plan_fields ms
   members ← few ds
   steps_after [] members
-
--- each step is of a kind that is read and written
-abbrev pub is_built : List Step → Bool
-is_built steps = list_all is_built_step steps

@@ -7,6 +7,7 @@ use Rattle.ratios.specs.Ratio.{Ratio, is_below, zero_ratio}
 use Rattle.frac_core.specs.declared.FracFault.{FracFault}
 use Rattle.frac_core.specs.Text.{weight_of}
 use Rattle.plan_model.specs.declared.step.Run.{Run}
+use Rattle.plan_model.specs.Sizes.{max_pieces}
 use Rattle.expr_text.specs.declared.fault.Limit.TheVariants as limit
 use Rattle.expr_text.specs.declared.fault.Place.{Place}
 use Rattle.expr_text.specs.declared.fault.PlanText.{PlanText}
@@ -46,7 +47,7 @@ run_in p d = do
 
 -- the pieces before and these, together at most 4,096
 abbrev pub pieces_with : Place → ℕ → ℕ → Result ℕ PlanText
-pieces_with p before more = if nat_le (before + more) 4096 then Ok (before + more) else over p.step limit.Pieces
+pieces_with p before more = if nat_le (before + more) max_pieces then Ok (before + more) else over p.step limit.Pieces
 
 -- the runs of a list, before which there are so many pieces
 abbrev pub runs_after : Place → ℕ → List Data → Result (List Run) PlanText

@@ -1,9 +1,10 @@
 -- The step that a value denotes, or the first fault of its walk.
-use Rattle.std.specs.Prelude.{ℕ, List, [], ◌∷◌, length, Bool, true, false, codes, if◌then◌else◌, Option, Some, None, option_map, option_and_then, Result, Ok}
+use Rattle.std.specs.Prelude.{ℕ, List, [], ◌∷◌, length, codes, if◌then◌else◌, Option, Some, None, option_map, option_and_then, Result, Ok}
 use Rattle.std.specs.Str.{bytes_eq}
 use Rattle.serde_json.specs.Data.{Data, Members}
 use Rattle.serde_json.specs.Find.{get, as_str, as_object}
 use Rattle.json_fields.specs.Walk.{◌>>=◌}
+use Rattle.plan_model.specs.declared.expr.Expr.{Expr}
 use Rattle.plan_model.specs.declared.step.SetKind.{SetKind}
 use Rattle.plan_model.specs.declared.step.SetKind.TheVariants as set
 use Rattle.plan_model.specs.declared.step.Step.{Step}
@@ -17,6 +18,7 @@ use Rattle.plan_reader.specs.declared.step.StepKind.{StepKind}
 use Rattle.plan_reader.specs.declared.step.StepKind.TheVariants as kind
 use Rattle.plan_reader.specs.Fields.{no_other, name_in, earlier_in, whole_in}
 use Rattle.plan_reader.specs.Items.{items_in}
+use Rattle.plan_reader.specs.Reducers.{reducer_in}
 use Rattle.plan_reader.specs.Runs.{runs_in}
 
 -- ---- what a step does
@@ -38,6 +40,8 @@ kind_named text =
     else if bytes_eq text (codes "select") then Some kind.Select
     else if bytes_eq text (codes "many") then Some kind.Many
     else if bytes_eq text (codes "shave") then Some kind.Shave
+    else if bytes_eq text (codes "join") then Some kind.Join
+    else if bytes_eq text (codes "group") then Some kind.Group
     else option_map kind.Set (set_named text)
 
 abbrev pub kind_of : Data → Option StepKind
@@ -51,6 +55,8 @@ step_fields kind.Select = codes "do" ∷ codes "of" ∷ codes "row" ∷ []
 step_fields kind.Many = codes "do" ∷ codes "of" ∷ codes "over" ∷ codes "items" ∷ []
 step_fields kind.Shave = codes "do" ∷ codes "of" ∷ codes "runs" ∷ []
 step_fields (kind.Set which) = codes "do" ∷ codes "left" ∷ codes "right" ∷ []
+step_fields kind.Join = codes "do" ∷ codes "left" ∷ codes "right" ∷ codes "left_key" ∷ codes "right_key" ∷ []
+step_fields kind.Group = codes "do" ∷ codes "of" ∷ codes "key" ∷ codes "reduce" ∷ []
 
 -- ---- single fields
 
@@ -63,6 +69,16 @@ left_in at d = earlier_in (place at field.Left) (codes "left") d
 
 unfoldable pub right_in : ℕ → Data → Result ℕ PlanText
 right_in at d = earlier_in (place at field.Right) (codes "right") d
+
+-- the keys on which rows are joined, and the one by which they are grouped
+unfoldable pub left_key_in : ℕ → Data → Result (List Expr) PlanText
+left_key_in at d = exprs_in (place at field.LeftKey) (get (codes "left_key") d)
+
+unfoldable pub right_key_in : ℕ → Data → Result (List Expr) PlanText
+right_key_in at d = exprs_in (place at field.RightKey) (get (codes "right_key") d)
+
+unfoldable pub key_in : ℕ → Data → Result (List Expr) PlanText
+key_in at d = exprs_in (place at field.Key) (get (codes "key") d)
 
 -- what the weights of the items are over, 1 to 1,048,576
 unfoldable pub over_in : ℕ → Data → Result ℕ PlanText
@@ -113,6 +129,23 @@ set_in which at d ms = do
   known ← no_other at (step_fields (kind.Set which)) ms
   Ok (step.Set which left right)
 
+unfoldable pub join_in : ℕ → Data → Members → Result Step PlanText
+join_in at d ms = do
+  left ← left_in at d
+  right ← right_in at d
+  left_key ← left_key_in at d
+  right_key ← right_key_in at d
+  known ← no_other at (step_fields kind.Join) ms
+  Ok (step.Join left right left_key right_key)
+
+unfoldable pub group_in : ℕ → Data → Members → Result Step PlanText
+group_in at d ms = do
+  from ← of_in at d
+  key ← key_in at d
+  reduce ← reducer_in (place at field.Reduce) (get (codes "reduce") d)
+  known ← no_other at (step_fields kind.Group) ms
+  Ok (step.Group from key reduce)
+
 abbrev pub fields_in : ℕ → Data → Members → StepKind → Result Step PlanText
 fields_in at d ms kind.Source = source_in at d ms
 fields_in at d ms kind.Where = where_in at d ms
@@ -120,6 +153,8 @@ fields_in at d ms kind.Select = select_in at d ms
 fields_in at d ms kind.Many = many_in at d ms
 fields_in at d ms kind.Shave = shave_in at d ms
 fields_in at d ms (kind.Set which) = set_in which at d ms
+fields_in at d ms kind.Join = join_in at d ms
+fields_in at d ms kind.Group = group_in at d ms
 
 -- the step at a place of the plan
 unfoldable pub step_at : ℕ → Data → Result Step PlanText
@@ -131,10 +166,3 @@ step_at at d = do
 -- the step behind those that were read before
 abbrev pub step_in : List Step → Data → Result Step PlanText
 step_in read d = step_at (length read) d
-
--- ---- the steps that are read and written
-
-abbrev pub is_built_step : Step → Bool
-is_built_step (step.Join left right left_key right_key) = false
-is_built_step (step.Group from key reduce) = false
-is_built_step _ = true

@@ -3,6 +3,7 @@ use Rattle.std.specs.Prelude.{◌≡◌, ℕ, IsTrue, codes, List, Some, Ok}
 use Rattle.serde_json.specs.Data.{Data, unsigned, number, string, array, object, no_members, member}
 use Rattle.serde_json.specs.View.{items_of}
 use Rattle.plan_model.specs.declared.step.Item.{Item}
+use Rattle.plan_model.specs.declared.step.Reducer.{Reducer}
 use Rattle.plan_model.specs.declared.step.Run.{Run}
 use Rattle.plan_model.specs.declared.step.SetKind.{SetKind}
 use Rattle.plan_model.specs.declared.step.SetKind.TheVariants as set
@@ -10,6 +11,7 @@ use Rattle.plan_model.specs.declared.step.Step.{Step}
 use Rattle.plan_model.specs.Limits.{is_step}
 use Rattle.expr_text.specs.declared.fault.Place.{Place}
 use Rattle.plan_reader.specs.Items.{item_in, items_in}
+use Rattle.plan_reader.specs.Reducers.{reducer_in}
 use Rattle.plan_reader.specs.Runs.{run_in, runs_in}
 use Rattle.plan_reader.specs.Steps.{step_at}
 
@@ -65,6 +67,27 @@ abbrev pub set_data : List ℕ → ℕ → ℕ → Data
 set_data name left right =
     object (member (codes "do") (string name) (member (codes "left") (number (unsigned left)) (member (codes "right") (number (unsigned right)) no_members)))
 
+-- `{"do":"join","left":left,"left_key":left_key,"right":right,"right_key":right_key}`
+abbrev pub join_data : ℕ → ℕ → Data → Data → Data
+join_data left right left_key right_key =
+    object (member (codes "do") (string (codes "join")) (member (codes "left") (number (unsigned left)) (member (codes "left_key") left_key
+    (member (codes "right") (number (unsigned right)) (member (codes "right_key") right_key no_members)))))
+
+-- `{"fn":"count"}`
+abbrev pub count_data : Data
+count_data = object (member (codes "fn") (string (codes "count")) no_members)
+
+-- `{"col":column,"fn":function}`
+abbrev pub column_reducer_data : List ℕ → ℕ → Data
+column_reducer_data function column =
+    object (member (codes "col") (number (unsigned column)) (member (codes "fn") (string function) no_members))
+
+-- `{"do":"group","key":key,"of":from,"reduce":reduce}`
+abbrev pub group_data : ℕ → Data → Data → Data
+group_data from key reduce =
+    object (member (codes "do") (string (codes "group")) (member (codes "key") key
+    (member (codes "of") (number (unsigned from)) (member (codes "reduce") reduce no_members))))
+
 -- `{"format":1,"steps":[..]}`
 abbrev pub plan_data : List Data → Data
 plan_data steps = object (member (codes "format") (number (unsigned 1)) (member (codes "steps") (array (items_of steps)) no_members))
@@ -86,6 +109,10 @@ RunReadsAs r d = (p : Place) → run_in p d ≡ Ok (r.weight, r.times)
 -- the walk over the list gives these runs
 abbrev pub RunsReadAs : List Run → Data → Type 0
 RunsReadAs rs d = (p : Place) → runs_in p (Some d) ≡ Ok rs
+
+-- the walk over the value gives the reducer
+abbrev pub ReducerReadsAs : Reducer → Data → Type 0
+ReducerReadsAs r d = (p : Place) → reducer_in p (Some d) ≡ Ok r
 
 -- at each place of a plan where the step may stand, the walk over the value gives the step
 abbrev pub StepReadsAs : Step → Data → Type 0

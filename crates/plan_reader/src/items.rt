@@ -4,6 +4,7 @@ ghost use Rattle.std.specs.List.{list_all};
 ghost use Rattle.json_fields.specs.Walk.{each};
 ghost use Rattle.serde_json.specs.View.{view};
 ghost use Rattle.plan_model.specs.Limits.{is_item};
+ghost use Rattle.plan_model.specs.Sizes.{max_items};
 ghost use Rattle.expr_text.specs.Gives.{Gives};
 ghost use Rattle.plan_reader.specs.Items.{guard_in, item_at, item_in, items_in};
 ghost use Rattle.plan_reader.specs.Written.{ItemReadsAs, ItemsReadAs, guarded_item_data, item_data};
@@ -37,7 +38,7 @@ pub fn items(alloc: Global, place: Place, field: Option<&Value>) -> Result<Items
 // The items of these values.
 fn all_items(alloc: Global, place: Place, list: &[Value]) -> Result<Items, PlanText>
     requires some { 0 < length list.now }
-    requires few { length list.now ≤ 64 }
+    requires few { length list.now ≤ max_items }
     ensures { Gives result (each (item_at place) 0 (map view list.now)) }
 {
     let mut items = Vec::with_capacity(alloc, list.len())?;

@@ -5,6 +5,7 @@
 mod fields;
 mod items;
 mod plan;
+mod reducers;
 mod runs;
 mod step;
 mod write;

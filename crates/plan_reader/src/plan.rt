@@ -1,8 +1,8 @@
 //! From a value to a plan.
-ghost use Rattle.std.specs.Prelude.{◌≡◌, ◌≤◌, ◌<◌, [], IfOk, IsTrue, length, map};
+ghost use Rattle.std.specs.Prelude.{◌≡◌, ◌≤◌, ◌<◌, [], length, map};
 ghost use Rattle.serde_json.specs.View.{view};
 ghost use Rattle.expr_text.specs.Gives.{Gives, GivesBy};
-ghost use Rattle.plan_reader.specs.Plans.{is_built, plan_walk, steps_after};
+ghost use Rattle.plan_reader.specs.Plans.{plan_walk, steps_after};
 
 use crate::fields::{format, only_known};
 use crate::step::step;
@@ -15,11 +15,9 @@ use std::alloc::Global;
 const MAX_STEPS: usize = 64;
 
 /// The plan that a value denotes, or the first fault of its walk. `Memory` may come in place of any answer.
-/// All steps but `join` and `group` can be read so far.
 #[tactic(auto, unfolding(crate::specs::Plans::plan_walk))]
 pub fn read_plan(alloc: Global, value: &Value) -> Result<Plan, PlanText>
-    ensures value { Gives result (plan_walk (view value.now)) }
-    ensures built { IfOk result (λ plan. IsTrue (is_built plan)) }
+    ensures { Gives result (plan_walk (view value.now)) }
 {
     let Some(members) = value.as_object() else {
         return shape(Place {

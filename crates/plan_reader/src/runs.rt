@@ -4,6 +4,7 @@ ghost use Rattle.std.specs.List.{list_all};
 ghost use Rattle.frac_core.specs.Text.{weight_of};
 ghost use Rattle.serde_json.specs.View.{view};
 ghost use Rattle.plan_model.specs.Limits.{is_run};
+ghost use Rattle.plan_model.specs.Sizes.{max_pieces};
 ghost use Rattle.expr_text.specs.Gives.{Gives};
 ghost use Rattle.plan_reader.specs.Fields.{whole_in};
 ghost use Rattle.plan_reader.specs.Runs.{max_times, pieces_with, run_in, runs_after, runs_in, weight_in};
@@ -49,7 +50,7 @@ fn all_runs(alloc: Global, place: Place, list: &[Value]) -> Result<Runs, PlanTex
 
 // The pieces before and those of a run, together at most 4,096.
 fn pieces_with(place: Place, before: u32, more: u64) -> Result<u32, PlanText>
-    requires { before ≤ 4096 }
+    requires { before ≤ max_pieces }
     ensures { Gives result (pieces_with place before more) }
 {
     if more > u64::from(MAX_PIECES - before) {

@@ -3,13 +3,14 @@ ghost use Rattle.std.specs.Prelude.{◌≡◌, map};
 ghost use Rattle.serde_json.specs.View.{view, members_view};
 ghost use Rattle.expr_text.specs.Gives.{Gives};
 ghost use Rattle.plan_reader.specs.Fields.{no_other};
-ghost use Rattle.plan_reader.specs.Steps.{fields_in, kind_named, kind_of, left_in, many_in, of_in, over_in, right_in, select_in, set_in, set_named, shave_in, source_in, step_at, step_fields, step_in, where_in};
+ghost use Rattle.plan_reader.specs.Steps.{fields_in, group_in, join_in, key_in, kind_named, kind_of, left_in, left_key_in, many_in, of_in, over_in, right_in, right_key_in, select_in, set_in, set_named, shave_in, source_in, step_at, step_fields, step_in, where_in};
 
 use crate::fields::{earlier, name, only_known, whole};
 use crate::items::{MAX_WEIGHT, items};
+use crate::reducers::reducer;
 use crate::runs::runs;
 use expr_text::{Field, Place, PlanText, expr, exprs, shape};
-use plan_model::{SetKind, Step};
+use plan_model::{Exprs, SetKind, Step};
 use serde_json::{Map, Value};
 use std::alloc::Global;
 
@@ -22,6 +23,8 @@ enum StepKind {
     Many,
     Shave,
     Set(SetKind),
+    Join,
+    Group,
 }
 
 /// The step that a value denotes, behind those of the plan that were read before.
@@ -76,6 +79,10 @@ fn kind_named(text: &str) -> Option<StepKind>
         Some(StepKind::Many)
     } else if text == "shave" {
         Some(StepKind::Shave)
+    } else if text == "join" {
+        Some(StepKind::Join)
+    } else if text == "group" {
+        Some(StepKind::Group)
     } else {
         match set_named(text) {
             Some(set) => Some(StepKind::Set(set)),
@@ -119,6 +126,8 @@ fn fields_of(
         StepKind::Many => many(alloc, at, value, members),
         StepKind::Shave => shave(alloc, at, value, members),
         StepKind::Set(set) => set_step(set, at, value, members),
+        StepKind::Join => join(alloc, at, value, members),
+        StepKind::Group => group(alloc, at, value, members),
     }
 }
 
@@ -133,6 +142,8 @@ fn fields(kind: StepKind) -> &'static [&'static str]
         StepKind::Many => &["do", "of", "over", "items"],
         StepKind::Shave => &["do", "of", "runs"],
         StepKind::Set(_) => &["do", "left", "right"],
+        StepKind::Join => &["do", "left", "right", "left_key", "right_key"],
+        StepKind::Group => &["do", "of", "key", "reduce"],
     }
 }
 
@@ -297,4 +308,82 @@ fn right(at: usize, value: &Value) -> Result<usize, PlanText>
         field: Field::Right,
     };
     earlier(place, "right", value)
+}
+
+#[tactic(auto, unfolding(crate::specs::Steps::join_in))]
+fn join(
+    alloc: Global,
+    at: usize,
+    value: &Value,
+    members: &Map<String, Value>,
+) -> Result<Step, PlanText>
+    ensures { Gives result (join_in at (view value.now) (members_view members.now.entries)) }
+{
+    let left = left(at, value)?;
+    let right = right(at, value)?;
+    let left_key = left_key(alloc, at, value)?;
+    let right_key = right_key(alloc, at, value)?;
+    no_other(at, StepKind::Join, members)?;
+    Ok(Step::Join {
+        left,
+        right,
+        left_key,
+        right_key,
+    })
+}
+
+// The key on which the left input is joined.
+#[tactic(auto, unfolding(crate::specs::Steps::left_key_in))]
+fn left_key(alloc: Global, at: usize, value: &Value) -> Result<Exprs, PlanText>
+    ensures { Gives result (left_key_in at (view value.now)) }
+{
+    let place = Place {
+        step: at,
+        field: Field::LeftKey,
+    };
+    exprs(alloc, place, value.get("left_key"))
+}
+
+// The key on which the right input is joined.
+#[tactic(auto, unfolding(crate::specs::Steps::right_key_in))]
+fn right_key(alloc: Global, at: usize, value: &Value) -> Result<Exprs, PlanText>
+    ensures { Gives result (right_key_in at (view value.now)) }
+{
+    let place = Place {
+        step: at,
+        field: Field::RightKey,
+    };
+    exprs(alloc, place, value.get("right_key"))
+}
+
+#[tactic(auto, unfolding(crate::specs::Steps::group_in))]
+fn group(
+    alloc: Global,
+    at: usize,
+    value: &Value,
+    members: &Map<String, Value>,
+) -> Result<Step, PlanText>
+    ensures { Gives result (group_in at (view value.now) (members_view members.now.entries)) }
+{
+    let of = of(at, value)?;
+    let key = key(alloc, at, value)?;
+    let place = Place {
+        step: at,
+        field: Field::Reduce,
+    };
+    let reduce = reducer(place, value.get("reduce"))?;
+    no_other(at, StepKind::Group, members)?;
+    Ok(Step::Group { of, key, reduce })
+}
+
+// The key by which rows are grouped.
+#[tactic(auto, unfolding(crate::specs::Steps::key_in))]
+fn key(alloc: Global, at: usize, value: &Value) -> Result<Exprs, PlanText>
+    ensures { Gives result (key_in at (view value.now)) }
+{
+    let place = Place {
+        step: at,
+        field: Field::Key,
+    };
+    exprs(alloc, place, value.get("key"))
 }

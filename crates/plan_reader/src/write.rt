@@ -3,11 +3,12 @@ ghost use Rattle.std.specs.Prelude.{◌≡◌, ℕ, IfOk, IsTrue, Ok, map};
 ghost use Rattle.json_fields.specs.Walk.{each};
 ghost use Rattle.serde_json.specs.View.{view};
 ghost use Rattle.plan_model.specs.Limits.{is_plan, is_step};
-ghost use Rattle.plan_reader.specs.Plans.{is_built, plan_walk};
-ghost use Rattle.plan_reader.specs.Steps.{is_built_step, step_at};
-ghost use Rattle.plan_reader.specs.Written.{StepReadsAs, many_data, plan_data, select_data, set_data, set_name, shave_data, source_data, where_data};
+ghost use Rattle.plan_reader.specs.Plans.{plan_walk};
+ghost use Rattle.plan_reader.specs.Steps.{step_at};
+ghost use Rattle.plan_reader.specs.Written.{StepReadsAs, group_data, join_data, many_data, plan_data, select_data, set_data, set_name, shave_data, source_data, where_data};
 
 use crate::items::items_to_json;
+use crate::reducers::reducer_to_json;
 use crate::runs::runs_to_json;
 use expr_text::{expr_to_json, exprs_to_json};
 use plan_model::{Memory, Plan, SetKind, Step};
@@ -16,7 +17,6 @@ use std::alloc::Global;
 
 /// The plan as a value that `read_plan` reads as that plan.
 pub fn plan_to_json(alloc: Global, plan: &Plan) -> Result<Value, Memory>
-    requires { IsTrue (is_built plan.now) }
     ensures { IfOk result (λ value. plan_walk (view value) ≡ Ok plan.now) }
 {
     let steps = steps_to_json(alloc, plan)?;
@@ -30,7 +30,6 @@ fn plan_of(alloc: Global, steps: Vec<Value>) -> Result<Value, Memory>
 }
 
 fn steps_to_json(alloc: Global, plan: &Plan) -> Result<Vec<Value>, Memory>
-    requires { IsTrue (is_built plan.now) }
     ensures values { IfOk result (λ values. each step_at 0 (map view values.items) ≡ Ok plan.now) }
     ensures plan { IfOk result (λ _. IsTrue (is_plan plan.now)) }
 {
@@ -42,8 +41,7 @@ fn steps_to_json(alloc: Global, plan: &Plan) -> Result<Vec<Value>, Memory>
 }
 
 fn step_to_json(alloc: Global, step: &Step) -> Result<Value, Memory>
-    requires limits { (at : ℕ) × IsTrue (is_step at step.now) }
-    requires built { IsTrue (is_built_step step.now) }
+    requires { (at : ℕ) × IsTrue (is_step at step.now) }
     ensures { IfOk result (λ value. StepReadsAs step.now (view value)) }
 {
     match step {
@@ -65,7 +63,21 @@ fn step_to_json(alloc: Global, step: &Step) -> Result<Value, Memory>
             shave_of(alloc, *of, runs)
         }
         Step::Set { kind, left, right } => set_of(alloc, set_name(*kind), *left, *right),
-        Step::Join { .. } | Step::Group { .. } => unreachable!(),
+        Step::Join {
+            left,
+            right,
+            left_key,
+            right_key,
+        } => {
+            let left_key = exprs_to_json(alloc, left_key)?;
+            let right_key = exprs_to_json(alloc, right_key)?;
+            join_of(alloc, *left, *right, left_key, right_key)
+        }
+        Step::Group { of, key, reduce } => {
+            let key = exprs_to_json(alloc, key)?;
+            let reduce = reducer_to_json(alloc, *reduce)?;
+            group_of(alloc, *of, key, reduce)
+        }
     }
 }
 
@@ -103,6 +115,24 @@ fn set_of(alloc: Global, name: &str, left: usize, right: usize) -> Result<Value,
     ensures { IfOk result (λ value. view value ≡ set_data name.now left right) }
 {
     json!(in alloc; {"do": name, "left": left, "right": right})
+}
+
+fn join_of(
+    alloc: Global,
+    left: usize,
+    right: usize,
+    left_key: Value,
+    right_key: Value,
+) -> Result<Value, Memory>
+    ensures { IfOk result (λ value. view value ≡ join_data left right (view left_key) (view right_key)) }
+{
+    json!(in alloc; {"do": "join", "left": left, "left_key": left_key, "right": right, "right_key": right_key})
+}
+
+fn group_of(alloc: Global, of: usize, key: Value, reduce: Value) -> Result<Value, Memory>
+    ensures { IfOk result (λ value. view value ≡ group_data of (view key) (view reduce)) }
+{
+    json!(in alloc; {"do": "group", "key": key, "of": of, "reduce": reduce})
 }
 
 // The name of a set operator.

@@ -1,12 +1,9 @@
 //! Tests of `plan_reader`.
-ghost use Rattle.std.specs.Prelude.{IsTrue};
-ghost use Rattle.plan_reader.specs.Plans.{is_built};
-
 use crate::texts::{added, listed, negated, plan, tree, with_step, with_test};
 use plan_model::Plan;
 use plan_reader::{Field, Limit, PlanText, plan_to_json, read_plan};
 use serde_json::Value;
-use std::alloc::Global;
+use std::alloc::{AllocError, Global};
 use std::test::Fail;
 
 // Why a text is no plan, or nothing where it is one.
@@ -88,10 +85,10 @@ fn names_the_first_fault_of_a_plan(rt: HostRuntime) -> Result<(), Fail> {
         ("{\"format\":1,\"steps\":[7]}", Field::Step),
         ("{\"format\":1,\"steps\":[{}]}", Field::Do),
         ("{\"format\":1,\"steps\":[{\"do\":7,\"a\":0}]}", Field::Do),
-        ("{\"format\":1,\"steps\":[{\"do\":\"group\"}]}", Field::Do),
+        ("{\"format\":1,\"steps\":[{\"do\":\"group\"}]}", Field::Of),
         (
             "{\"format\":1,\"steps\":[{\"do\":\"join\",\"left\":7},7]}",
-            Field::Do,
+            Field::Left,
         ),
         (
             "{\"format\":1,\"steps\":[{\"do\":\"source\"}]}",
@@ -298,9 +295,93 @@ fn names_the_first_fault_of_a_set_step(rt: HostRuntime) -> Result<(), Fail> {
             "{\"do\":\"except\",\"left\":0,\"right\":0,\"of\":0}",
             Field::Other,
         ),
-        ("{\"do\":\"join\",\"left\":0,\"right\":0}", Field::Do),
+        ("{\"do\":\"joins\",\"left\":0,\"right\":0}", Field::Do),
     ];
     assert_eq!(rt; first_taken_step(rt.alloc(), &rows)?, None);
+    Ok(())
+}
+
+#[test]
+fn names_the_first_fault_of_a_join(rt: HostRuntime) -> Result<(), Fail> {
+    let rows = [
+        ("{\"do\":\"join\",\"right\":0}", Field::Left),
+        ("{\"do\":\"join\",\"left\":0,\"left_key\":7}", Field::Right),
+        (
+            "{\"do\":\"join\",\"left\":0,\"right\":0,\"right_key\":7,\"of\":0}",
+            Field::LeftKey,
+        ),
+        (
+            "{\"do\":\"join\",\"left\":0,\"right\":0,\"left_key\":[],\"right_key\":7}",
+            Field::LeftKey,
+        ),
+        (
+            "{\"do\":\"join\",\"left\":0,\"right\":0,\"left_key\":[{\"col\":0}],\"right_key\":[7],\"of\":0}",
+            Field::RightKey,
+        ),
+        (
+            "{\"do\":\"join\",\"left\":0,\"right\":0,\"left_key\":[{\"col\":0}],\"right_key\":[]}",
+            Field::RightKey,
+        ),
+        (
+            "{\"do\":\"join\",\"left\":0,\"right\":0,\"left_key\":[{\"col\":0}],\"right_key\":[{\"col\":0}],\"of\":0}",
+            Field::Other,
+        ),
+    ];
+    assert_eq!(rt; first_taken_step(rt.alloc(), &rows)?, None);
+    Ok(())
+}
+
+#[test]
+fn names_the_first_fault_of_a_group(rt: HostRuntime) -> Result<(), Fail> {
+    let rows = [
+        ("{\"do\":\"group\",\"key\":7}", Field::Of),
+        ("{\"do\":\"group\",\"of\":0,\"reduce\":7}", Field::Key),
+        (
+            "{\"do\":\"group\",\"of\":0,\"key\":[],\"reduce\":{\"fn\":\"count\"}}",
+            Field::Key,
+        ),
+        (
+            "{\"do\":\"group\",\"of\":0,\"key\":[{\"col\":0}],\"left\":0}",
+            Field::Reduce,
+        ),
+        (
+            "{\"do\":\"group\",\"of\":0,\"key\":[{\"col\":0}],\"reduce\":{\"fn\":\"count\"},\"left\":0}",
+            Field::Other,
+        ),
+    ];
+    assert_eq!(rt; first_taken_step(rt.alloc(), &rows)?, None);
+    Ok(())
+}
+
+// Why this is no reducer of a step.
+fn reducer_fault(alloc: Global, reducer: &str) -> Result<Option<PlanText>, Fail> {
+    let step = format!(in alloc;
+        "{{\"do\":\"group\",\"of\":0,\"key\":[{{\"col\":0}}],\"reduce\":{reducer}}}"
+    )?;
+    step_fault(alloc, step.as_str())
+}
+
+#[test]
+fn refuses_what_is_no_reducer(rt: HostRuntime) -> Result<(), Fail> {
+    let rows = [
+        "7",
+        "\"count\"",
+        "{}",
+        "{\"col\":0}",
+        "{\"fn\":7}",
+        "{\"fn\":\"mean\",\"col\":0}",
+        "{\"fn\":\"count\",\"col\":0}",
+        "{\"fn\":\"min\"}",
+        "{\"fn\":\"min\",\"col\":256}",
+        "{\"fn\":\"max\",\"col\":-1}",
+        "{\"fn\":\"max\",\"col\":0.0}",
+        "{\"fn\":\"sum\",\"col\":{\"col\":0}}",
+        "{\"fn\":\"sum\",\"col\":0,\"of\":0}",
+    ];
+    for reducer in rows {
+        assert!(rt; reducer_fault(rt.alloc(), reducer)? == shape(1, Field::Reduce));
+    }
+    assert!(rt; reducer_fault(rt.alloc(), "{\"col\":255,\"fn\":\"sum\"}")? == None);
     Ok(())
 }
 
@@ -372,6 +453,38 @@ fn row_fault(alloc: Global, expr: &str, times: usize) -> Result<Option<PlanText>
     let list = listed(alloc, expr, times)?;
     let step = format!(in alloc; "{{\"do\":\"select\",\"of\":0,\"row\":[{list}]}}")?;
     step_fault(alloc, step.as_str())
+}
+
+// Why so many of these expressions are no key of a group.
+fn key_fault(alloc: Global, expr: &str, times: usize) -> Result<Option<PlanText>, Fail> {
+    let list = listed(alloc, expr, times)?;
+    let step = format!(in alloc;
+        "{{\"do\":\"group\",\"of\":0,\"key\":[{list}],\"reduce\":{{\"fn\":\"count\"}}}}"
+    )?;
+    step_fault(alloc, step.as_str())
+}
+
+// Why so many of these expressions are no right key of a join.
+fn right_key_fault(alloc: Global, expr: &str, times: usize) -> Result<Option<PlanText>, Fail> {
+    let list = listed(alloc, expr, times)?;
+    let step = format!(in alloc;
+        "{{\"do\":\"join\",\"left\":0,\"right\":0,\"left_key\":[{{\"col\":0}}],\"right_key\":[{list}]}}"
+    )?;
+    step_fault(alloc, step.as_str())
+}
+
+#[test]
+fn limits_a_key(rt: HostRuntime) -> Result<(), Fail> {
+    let rows = [
+        ("{\"col\":0}", 16, None),
+        ("{\"col\":0}", 17, over(1, Limit::Width)),
+        ("7", 17, over(1, Limit::Width)),
+    ];
+    for (expr, times, expected) in rows {
+        assert!(rt; key_fault(rt.alloc(), expr, times)? == expected);
+        assert!(rt; right_key_fault(rt.alloc(), expr, times)? == expected);
+    }
+    Ok(())
 }
 
 #[test]
@@ -500,9 +613,7 @@ fn tests_the_depth_before_the_nodes(rt: HostRuntime) -> Result<(), Fail> {
 }
 
 // The text that a plan is written as, which is read again.
-fn written(alloc: Global, plan: &Plan) -> Result<String, Fail>
-    requires { IsTrue (is_built plan.now) }
-{
+fn written(alloc: Global, plan: &Plan) -> Result<String, Fail> {
     let value = plan_to_json(alloc, plan)?;
     read_plan(alloc, &value)?;
     Ok(value.to_string(alloc)?)
@@ -533,5 +644,37 @@ fn writes_steps_on_several_rows(rt: HostRuntime) -> Result<(), Fail> {
         {\"do\":\"union\",\"left\":0,\"right\":1},{\"do\":\"intersect\",\"left\":2,\"right\":1},\
         {\"do\":\"concat\",\"left\":4,\"right\":3},{\"do\":\"except\",\"left\":5,\"right\":5}]}";
     assert_eq!(rt; read_and_written(rt.alloc(), text)?.as_str(), text);
+    Ok(())
+}
+
+// The text of a plan of two sources and these steps.
+fn with_sources(alloc: Global, steps: &str) -> Result<String, AllocError> {
+    format!(in alloc;
+        "{{\"format\":1,\"steps\":[{{\"do\":\"source\",\"name\":\"a\"}},{{\"do\":\"source\",\"name\":\"b\"}},{steps}]}}"
+    )
+}
+
+// Whether a plan of two sources and these steps is written as it was read.
+fn is_written_back(alloc: Global, steps: &str) -> Result<bool, Fail> {
+    let text = with_sources(alloc, steps)?;
+    let written = read_and_written(alloc, text.as_str())?;
+    Ok(written.as_str() == text.as_str())
+}
+
+#[test]
+fn writes_joins_and_groups(rt: HostRuntime) -> Result<(), Fail> {
+    let rows = [
+        "{\"do\":\"join\",\"left\":0,\"left_key\":[{\"args\":[{\"col\":0},{\"int\":2}],\"call\":\"mod\"}],\"right\":1,\"right_key\":[{\"args\":[{\"col\":0},{\"int\":2}],\"call\":\"mod\"}]}",
+        "{\"do\":\"group\",\"key\":[{\"args\":[{\"col\":0},{\"int\":2}],\"call\":\"mod\"}],\"of\":0,\"reduce\":{\"fn\":\"count\"}}",
+        "{\"do\":\"group\",\"key\":[{\"args\":[{\"col\":0},{\"int\":2}],\"call\":\"mod\"},{\"col\":0}],\"of\":0,\"reduce\":{\"col\":0,\"fn\":\"max\"}}",
+        "{\"do\":\"group\",\"key\":[{\"args\":[{\"col\":0},{\"int\":2}],\"call\":\"mod\"}],\"of\":0,\"reduce\":{\"col\":255,\"fn\":\"min\"}}",
+        "{\"do\":\"group\",\"key\":[{\"args\":[{\"col\":0},{\"int\":2}],\"call\":\"mod\"}],\"of\":0,\"reduce\":{\"col\":0,\"fn\":\"sum\"}}",
+        "{\"do\":\"except\",\"left\":0,\"right\":1},{\"do\":\"group\",\"key\":[{\"args\":[{\"col\":0},{\"int\":2}],\"call\":\"mod\"}],\"of\":2,\"reduce\":{\"fn\":\"count\"}}",
+        "{\"do\":\"union\",\"left\":0,\"right\":1},{\"do\":\"group\",\"key\":[{\"args\":[{\"col\":0},{\"int\":2}],\"call\":\"mod\"}],\"of\":2,\"reduce\":{\"fn\":\"count\"}}",
+        "{\"do\":\"join\",\"left\":0,\"left_key\":[{\"col\":1}],\"right\":0,\"right_key\":[{\"col\":0}]},{\"do\":\"where\",\"if\":{\"args\":[{\"col\":0},{\"col\":3}],\"call\":\"ne\"},\"of\":2}",
+    ];
+    for steps in rows {
+        assert!(rt; is_written_back(rt.alloc(), steps)?, "{steps}");
+    }
     Ok(())
 }

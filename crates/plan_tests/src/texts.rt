@@ -1,7 +1,4 @@
 //! Texts of plans and of their parts.
-ghost use Rattle.std.specs.Prelude.{IfOk, IsTrue};
-ghost use Rattle.plan_reader.specs.Plans.{is_built};
-
 use plan_model::Plan;
 use plan_reader::read_plan;
 use serde_json::Value;
@@ -9,9 +6,7 @@ use std::alloc::{AllocError, Global};
 use std::test::Fail;
 
 /// The plan that a text denotes.
-pub fn plan(alloc: Global, text: &str) -> Result<Plan, Fail>
-    ensures { IfOk result (λ plan. IsTrue (is_built plan)) }
-{
+pub fn plan(alloc: Global, text: &str) -> Result<Plan, Fail> {
     let value = Value::from_str(alloc, text)?;
     Ok(read_plan(alloc, &value)?)
 }

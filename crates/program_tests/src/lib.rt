@@ -2,6 +2,8 @@
 #![tactic(auto)]
 
 #[cfg(test)]
+mod joins_groups;
+#[cfg(test)]
 mod plan_steps;
 #[cfg(test)]
 mod plans;

@@ -192,9 +192,14 @@ fn steps_are_refused_by_their_inputs_and_limits(rt: HostRuntime) -> Result<(), F
             r#"{"op":"plan","name":"p","plan":{"format":1,"steps":[{"do":"source","name":"a"},{"do":"many","of":0,"over":1,"items":[{"weight":1,"row":[{"col":0}]},{"weight":1,"row":[{"text":"x"}]}]}]}}"#,
             r#"{"ok":false,"step":1,"what":"kind","why":"plan"}"#,
         ),
+        // So would a group by 16 columns, and a join of 16 and 1.
         (
-            r#"{"op":"plan","name":"p","plan":{"format":1,"steps":[{"do":"source","name":"a"},{"do":"group","of":0,"key":[{"col":0}],"reduce":{"fn":"count"}}]}}"#,
-            r#"{"field":"do","ok":false,"step":1,"why":"shape"}"#,
+            r#"{"op":"plan","name":"p","plan":{"format":1,"steps":[{"do":"source","name":"w"},{"do":"group","of":0,"key":[{"col":0},{"col":0},{"col":0},{"col":0},{"col":0},{"col":0},{"col":0},{"col":0},{"col":0},{"col":0},{"col":0},{"col":0},{"col":0},{"col":0},{"col":0},{"col":0}],"reduce":{"fn":"count"}}]}}"#,
+            r#"{"ok":false,"step":1,"what":"too_wide","why":"plan"}"#,
+        ),
+        (
+            r#"{"op":"plan","name":"p","plan":{"format":1,"steps":[{"do":"source","name":"w"},{"do":"source","name":"a"},{"do":"join","left":0,"right":1,"left_key":[{"col":0}],"right_key":[{"col":0}]}]}}"#,
+            r#"{"ok":false,"step":2,"what":"too_wide","why":"plan"}"#,
         ),
     ];
     converse(&rt, rt.alloc(), &["--curator"], &rows)

@@ -6,7 +6,6 @@ use Rattle.serde_json.specs.Find.{as_object}
 use Rattle.serde_json.specs.Read.{read}
 use Rattle.json_fields.specs.Walk.{◌>>=◌, needed}
 use Rattle.plan_model.specs.Limits.{is_plan}
-use Rattle.plan_reader.specs.Plans.{is_built}
 use Rattle.messages.specs.Words.{thing_word}
 use Rattle.messages.specs.declared.thing.Thing.{Thing}
 use Rattle.messages.specs.declared.thing.Thing.TheVariants as thing
@@ -125,6 +124,6 @@ abbrev pub IsWithinLimits : Request → Type 0
 IsWithinLimits (request.Sum weights) = ⊤
 IsWithinLimits (request.Source name kinds signed budget) = budget ≤ max_budget
 IsWithinLimits (request.Update source csv header) = ⊤
-IsWithinLimits (request.Plan name plan) = IsTrue (is_built plan) × IsTrue (is_plan plan)
+IsWithinLimits (request.Plan name plan) = IsTrue (is_plan plan)
 IsWithinLimits (request.Drop plan) = ⊤
 IsWithinLimits (request.Exact of rows) = (1 ≤ length rows) × (length rows ≤ max_rows)

@@ -2,7 +2,6 @@
 ghost use Rattle.std.specs.Prelude.{◌≡◌, Err, IfOk, IsTrue};
 ghost use Rattle.serde_json.specs.View.{view};
 ghost use Rattle.plan_model.specs.Limits.{is_plan};
-ghost use Rattle.plan_reader.specs.Plans.{is_built};
 ghost use Rattle.expr_text.specs.declared.fault.PlanText.TheVariants as walk;
 ghost use Rattle.request_fields.specs.Gives.{Gives};
 ghost use Rattle.request_text.specs.Plans.{field_word, plan_fault, plan_field};
@@ -19,7 +18,6 @@ use std::alloc::Global;
 #[tactic(auto, unfolding(crate::specs::Plans::plan_field))]
 pub fn plan(alloc: Global, value: &Value) -> Result<Plan, ReadFault>
     ensures value { Gives result (plan_field (view value.now)) }
-    ensures built { IfOk result (λ plan. IsTrue (is_built plan)) }
     ensures limits { IfOk result (λ plan. IsTrue (is_plan plan)) }
 {
     let Some(value) = value.get("plan") else {

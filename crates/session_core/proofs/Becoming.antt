@@ -66,7 +66,6 @@ module _ (types : List SourceType) (source : ℕ) (changes : List Change) (F G :
 module _ (types : List SourceType) (F : Family) (planned : Planned) (new : FlowGraph) (same : IsSameGraph planned.graph new) (kept : GraphKeeps planned.graph new) (h : Holds types F planned) where
   pub Holds-kept : Holds types F (record planned { graph = new })
   Holds-kept = record {
-    built = h.built;
     accepted = h.accepted;
     fits = h.fits;
     size = h.size;

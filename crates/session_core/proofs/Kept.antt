@@ -34,7 +34,6 @@ module _ (types : List SourceType) (t : SourceType) (F : Family) (A : Dataset) (
       let few : n ≤ length types = let front = length-take n types in let all = ap length h.holds.first in omega arith in
       record {
         holds = record {
-          built = h.holds.built;
           accepted = Accepts-extended types t planned.plan h.holds.accepted;
           fits = misfit-extended types t F A same planned.plan known ∙ h.holds.fits;
           size = length-append F (A ∷ []) ∙ ap (λ k. k + 1) same ∙ sym (length-append types (t ∷ []));
@@ -65,7 +64,6 @@ AllSettled-declared sources new plans sound all =
 IsSoundPlan-held : (sources : List SourceState) (planned : Planned) → Holds (types_of sources) (family_of sources) planned → IsSoundPlan sources (plan_state planned)
 IsSoundPlan-held sources planned h = record {
   limits = subst (λ plan. IsTrue (is_plan plan)) h.same h.stands.plan.kept.steps;
-  built = h.built;
   accepted = h.accepted;
   fits = h.fits;
 }

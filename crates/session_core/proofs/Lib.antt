@@ -10,7 +10,6 @@ pub mod PlanSteps
 pub mod PlanLoops
 pub mod FirstSources
 pub mod Becoming
-pub mod Buildable
 pub mod Kept
 pub mod Outcomes
 pub mod Declared

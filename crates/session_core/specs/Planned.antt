@@ -4,7 +4,6 @@ use Rattle.plan_model.specs.Evaluation.{Family, last_or}
 use Rattle.plan_model.specs.Acceptance.{Accepts}
 use Rattle.plan_model.specs.Fits.{misfit}
 use Rattle.plan_model.specs.Types.{columns}
-use Rattle.plan_reader.specs.Plans.{is_built}
 use Rattle.plan_model.specs.declared.source_types.SourceType.{SourceType}
 use Rattle.messages.specs.declared.refusal.Refusal.TheVariants as refusal
 use Rattle.weighted_set.specs.declared.weighted.Change.{Change}
@@ -25,7 +24,6 @@ plan_states plans = map plan_state plans
 -- the plan can be read, is accepted for sources of these types and fits the family; its graph, which was built on the
 -- first of them, stands for what they hold, and its columns are told
 pub record Holds (types : List SourceType) (F : Family) (planned : Planned) : Type 0 where
-  pub built : IsTrue (is_built planned.plan)
   pub accepted : Accepts planned.plan types
   pub fits : misfit planned.plan types F ≡ None
   pub size : length F ≡ length types

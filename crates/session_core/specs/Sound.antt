@@ -11,7 +11,6 @@ use Rattle.datasets.specs.Dataset.{Dataset, at}
 use Rattle.plan_model.specs.Acceptance.{Accepts}
 use Rattle.plan_model.specs.Fits.{misfit}
 use Rattle.plan_model.specs.Limits.{is_plan}
-use Rattle.plan_reader.specs.Plans.{is_built}
 use Rattle.session_core.specs.Limits.{max_budget, max_plans, max_sources}
 use Rattle.session_core.specs.Named.{plan_name, source_name}
 use Rattle.session_core.specs.State.{PlanState, SourceState, State, family_of, types_of}
@@ -31,7 +30,6 @@ pub record IsSoundSource (source : SourceState) : Type 0 where
 -- the plan is one that can be read, is accepted for the sources and fits them
 pub record IsSoundPlan (sources : List SourceState) (plan : PlanState) : Type 0 where
   pub limits : IsTrue (is_plan plan.plan)
-  pub built : IsTrue (is_built plan.plan)
   pub accepted : Accepts plan.plan (types_of sources)
   pub fits : misfit plan.plan (types_of sources) (family_of sources) ≡ None
 

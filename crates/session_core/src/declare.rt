@@ -1,7 +1,6 @@
 //! Sources and plans that are declared, and plans that are taken out.
 ghost use Rattle.std.specs.Prelude.{◌≡◌, ◌≤◌, IfOk, IsTrue, length, map};
 ghost use Rattle.plan_model.specs.Limits.{is_plan};
-ghost use Rattle.plan_reader.specs.Plans.{is_built};
 ghost use Rattle.plan_checker.specs.Checked.{IsChecked};
 ghost use Rattle.session_core.specs.Limits.{max_budget};
 ghost use Rattle.session_core.specs.Machine.{declared, dropped, planned, uses_named};
@@ -69,7 +68,6 @@ impl Parts {
         steps: &mut Steps<L>,
     ) -> Result<(), Memory>
         requires settled { AreSettled self.old }
-        requires built { IsTrue (is_built plan) }
         requires limits { IsTrue (is_plan plan) }
         ensures { Does result self.old (planned (state_of self.old) (new_plan name plan))
             self.new reply.old.items reply.new.items }
@@ -99,7 +97,6 @@ impl Parts {
     ) -> Result<(), Memory>
         requires settled { AreSettled self.old }
         requires new { IsNewPlan (state_of self.old) name }
-        requires built { IsTrue (is_built plan) }
         requires limits { IsTrue (is_plan plan) }
         requires checked { IsChecked plan (types_of self.old.sources.committed) checked.now }
         ensures { Does result self.old (planned (state_of self.old) (new_plan name plan))

@@ -1,8 +1,8 @@
 //! How far apart a source and its count are, before and after an update.
-use crate::values::{pair, row};
 use frac_core::Frac;
 use std::alloc::Global;
 use std::test::Fail;
+use trial_rows::{pair, row};
 use weighted_set::{Memory, WSet};
 
 // So many eighths.

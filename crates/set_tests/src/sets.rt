@@ -1,8 +1,8 @@
 //! Tests of sets of weights, and of lists of sets.
-use crate::values::{MOST, are_changes, is_row, row, weights, whole};
 use frac_core::Frac;
 use std::alloc::Global;
 use std::test::Fail;
+use trial_rows::{MOST, are_changes, is_row, row, weights, whole};
 use weighted_set::{AddFault, HeldSet, Memory, SourceSet, WSet, law_changes};
 
 // Adds whole weights to rows of one number, and then commits or drops the changes. Answers how many there were.

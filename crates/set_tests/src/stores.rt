@@ -1,13 +1,13 @@
 //! Tests of stores of weights by key.
 ghost use Rattle.std.specs.Prelude.{◌≡◌, ◌<◌};
 
-use crate::values::{are_weights, row, whole};
 use frac_core::Frac;
 use std::alloc::Global;
 use std::marker::Brand;
 use std::process::Abort;
 use std::sync::ledger::{Blank, Ledger};
 use steps::Steps;
+use trial_rows::{are_weights, row, whole};
 use weighted_set::{Memory, PartStore, View};
 
 // Makes whole weights pending, each of a key and a row of one number.

@@ -1,7 +1,9 @@
 //! Plans and source types for tests.
-ghost use Rattle.std.specs.Prelude.{◌≡◌, ◌+◌, ◌<◌, ℕ, IfOk, IsTrue, OnOk, length};
+ghost use Rattle.std.specs.Prelude.{◌≡◌, ◌+◌, ◌<◌, ◌≤◌, ℕ, IfOk, IsTrue, OnOk, length};
 ghost use Rattle.std.specs.List.{list_all};
-ghost use Rattle.plan_model.specs.Limits.{are_exprs, are_steps, is_item, is_run, is_step};
+ghost use Rattle.plan_model.specs.Limits.{are_exprs, are_steps, has_sizes, has_width, is_item, is_run, is_size, is_step};
+ghost use Rattle.plan_model.specs.Pieces.{piece_count};
+ghost use Rattle.plan_model.specs.Sizes.{max_items, max_pieces};
 
 use frac_core::Frac;
 use plan_checker::place_of;
@@ -38,7 +40,8 @@ pub(super) enum Written {
 
 // The rows of a column and those after it, so many together.
 fn row(alloc: Global, first: u8, count: u8) -> Result<Exprs, Fail>
-    ensures { IfOk result (λ row. IsTrue (are_exprs row)) }
+    ensures limits { IfOk result (λ row. IsTrue (are_exprs row)) }
+    ensures width { IfOk result (λ row. IsTrue (has_width row)) }
 {
     if count == 0 || count > 16 {
         return Err(Fail::from("no row"));
@@ -51,8 +54,10 @@ fn row(alloc: Global, first: u8, count: u8) -> Result<Exprs, Fail>
 }
 
 fn item(row: Exprs) -> Item
-    requires { IsTrue (are_exprs row) }
-    ensures { IsTrue (is_item result) }
+    requires limits { IsTrue (are_exprs row) }
+    requires width { IsTrue (has_width row) }
+    ensures limits { IsTrue (is_item result) }
+    ensures width { IsTrue (has_width result.row) }
 {
     Item {
         weight: 1,
@@ -63,7 +68,9 @@ fn item(row: Exprs) -> Item
 
 // The rows of one column, and the rows of another one.
 fn items(alloc: Global, first: u8, second: u8) -> Result<Items, Fail>
-    ensures { IfOk result (λ items. IsTrue (list_all is_item items)) }
+    ensures limits { IfOk result (λ items. IsTrue (list_all is_item items)) }
+    ensures count { IfOk result (λ items. IsTrue (is_size max_items (length items))) }
+    ensures widths { IfOk result (λ items. IsTrue (list_all (λ i. has_width i.row) items)) }
 {
     let mut list = Vec::new(alloc);
     list.push(item(row(alloc, first, 1)?))?;
@@ -82,7 +89,9 @@ fn whole_pieces() -> Run
 }
 
 fn runs(alloc: Global) -> Result<Runs, Memory>
-    ensures { IfOk result (λ runs. IsTrue (list_all is_run runs)) }
+    ensures limits { IfOk result (λ runs. IsTrue (list_all is_run runs)) }
+    ensures some { IfOk result (λ runs. 0 < length runs) }
+    ensures few { IfOk result (λ runs. piece_count runs ≤ max_pieces) }
 {
     let mut list = Vec::new(alloc);
     list.push(whole_pieces())?;
@@ -90,21 +99,24 @@ fn runs(alloc: Global) -> Result<Runs, Memory>
 }
 
 fn source(name: &str) -> Result<Step, Fail>
-    ensures { IfOk result (λ step. (at : ℕ) → IsTrue (is_step at step)) }
+    ensures limits { IfOk result (λ step. (at : ℕ) → IsTrue (is_step at step)) }
+    ensures sizes { IfOk result (λ step. IsTrue (has_sizes step)) }
 {
     let name = Name::read(name.as_bytes()).ok_or("no name")?;
     Ok(Step::Source { name })
 }
 
 fn many(alloc: Global, of: usize, first: u8, second: u8) -> Result<Step, Fail>
-    ensures { IfOk result (λ step. (at : ℕ) → of < at → IsTrue (is_step at step)) }
+    ensures limits { IfOk result (λ step. (at : ℕ) → of < at → IsTrue (is_step at step)) }
+    ensures sizes { IfOk result (λ step. IsTrue (has_sizes step)) }
 {
     let items = items(alloc, first, second)?;
     Ok(Step::Many { of, over: 2, items })
 }
 
 fn join(alloc: Global, of: usize) -> Result<Step, Fail>
-    ensures { IfOk result (λ step. (at : ℕ) → of < at → IsTrue (is_step at step)) }
+    ensures limits { IfOk result (λ step. (at : ℕ) → of < at → IsTrue (is_step at step)) }
+    ensures sizes { IfOk result (λ step. IsTrue (has_sizes step)) }
 {
     Ok(Step::Join {
         left: of,
@@ -115,14 +127,16 @@ fn join(alloc: Global, of: usize) -> Result<Step, Fail>
 }
 
 fn set(kind: SetKind, left: usize, right: usize) -> Step
-    ensures { (at : ℕ) → left < at → right < at → IsTrue (is_step at result) }
+    ensures limits { (at : ℕ) → left < at → right < at → IsTrue (is_step at result) }
+    ensures sizes { IsTrue (has_sizes result) }
 {
     Step::Set { kind, left, right }
 }
 
 // The step, where `of` is the place of the step before.
 fn step_over(alloc: Global, of: usize, step: Written) -> Result<Step, Fail>
-    ensures { IfOk result (λ step. (at : ℕ) → of < at → IsTrue (is_step at step)) }
+    ensures limits { IfOk result (λ step. (at : ℕ) → of < at → IsTrue (is_step at step)) }
+    ensures sizes { IfOk result (λ step. IsTrue (has_sizes step)) }
 {
     match step {
         Written::Source(name) => source(name),
@@ -153,7 +167,10 @@ fn step_over(alloc: Global, of: usize, step: Written) -> Result<Step, Fail>
 fn add(steps: &mut Vec<Step>, step: Step) -> Result<(), Memory>
     requires steps { IsTrue (are_steps 0 steps.old.items) }
     requires step { IsTrue (is_step (length steps.old.items) step) }
+    requires sizes { IsTrue (list_all has_sizes steps.old.items) }
+    requires size { IsTrue (has_sizes step) }
     ensures steps { OnOk result (IsTrue (are_steps 0 steps.new.items)) }
+    ensures sizes { OnOk result (IsTrue (list_all has_sizes steps.new.items)) }
     ensures len { OnOk result (length steps.new.items ≡ length steps.old.items + 1) }
 {
     steps.push(step)?;

@@ -4,12 +4,10 @@ use Rattle.plan_model.proofs.Plans.{step_of_plan}
 use Rattle.plan_model.specs.Acceptance.{is_narrow, step_has_columns, step_has_kinds}
 use Rattle.plan_model.specs.Limits.{is_step}
 use Rattle.plan_model.specs.Types.{columns_step}
-use Rattle.record_text.proofs.Lists.{passes_at}
 use Rattle.flow_graph.specs.Nodes.{node_standing}
-use Rattle.flow_graph.specs.Steps.{has_node}
 use Rattle.flow_graph.proofs.Building.{AreBuilt-more, AreBuilt-start, AreFresh-built, length-columns, narrow-of_steps}
 use Rattle.flow_graph.proofs.Fronts.{Passes-at}
-use Rattle.flow_graph.proofs.PlanGraphs.{kinds-of_steps}
+use Rattle.flow_graph.proofs.PlanGraphs.{columns-of_steps, kinds-of_steps}
 use Rattle.flow_graph.proofs.fresh.nodes_of.Goals as goal
 
 pub loop-at-init : goal.loop-at-init
@@ -20,8 +18,11 @@ node_of-requires-clause-step c =
     let size = length-columns node_standing c.args.plan.now c.args.types.now c.requires _ _ c.loop-at.at c.loop-at.invariant c.step-step.result.now c.step-step.ensures in
     subst (λ k. is_step k c.step-step.result.now ≡ true) (sym (ap length c.as_slice.ensures.value ∙ size)) (step_of_plan c.args.plan.now c.loop-at.at c.step-step.result.now c.step-step.ensures c.requires.steps)
 
-pub node_of-requires-clause-node : goal.node_of-requires-clause-node
-node_of-requires-clause-node c = passes_at has_node c.args.plan.now c.loop-at.at c.step-step.result.now c.step-step.ensures c.requires.nodes
+pub node_of-requires-clause-columns : goal.node_of-requires-clause-columns
+node_of-requires-clause-columns c =
+    let passes = Passes-at c.args.types.now [] c.args.plan.now c.loop-at.at c.step-step.result.now c.requires.accepted c.step-step.ensures in
+    columns-of_steps c.args.types.now c.step-step.result.now c.as_slice.result.now
+    (subst (λ cs. step_has_columns c.args.types.now c.step-step.result.now cs ≡ true) (sym (c.as_slice.ensures.value ∙ c.loop-at.invariant.of_columns)) passes.within_width)
 
 pub node_of-requires-clause-kinds : goal.node_of-requires-clause-kinds
 node_of-requires-clause-kinds c =

@@ -5,8 +5,8 @@ use Rattle.std.proofs.lemmas.Result.{IfOk-weaker}
 use Rattle.serde_json.specs.View.{view}
 use Rattle.plan_model.specs.declared.step.Step.TheVariants as step
 use Rattle.plan_model.specs.Limits.{is_item, is_run, max_item_weight}
-use Rattle.plan_reader.specs.Written.{StepReadsAs, source_data, where_data, select_data, many_data, shave_data, set_data}
-use Rattle.plan_reader.proofs.StepsReadBack.{reads-source, reads-where, reads-select, reads-many, reads-shave, reads-set}
+use Rattle.plan_reader.specs.Written.{StepReadsAs, source_data, where_data, select_data, many_data, shave_data, set_data, join_data, group_data}
+use Rattle.plan_reader.proofs.StepsReadBack.{reads-source, reads-where, reads-select, reads-many, reads-shave, reads-set, reads-join, reads-group}
 use Rattle.plan_reader.proofs.write.step_to_json.Goals as goal
 
 pub returns-in-Source : goal.returns-in-Source
@@ -28,14 +28,14 @@ returns-in_ok-row-in-Select c =
 
 pub items_to_json-requires : goal.items_to_json-requires
 items_to_json-requires c =
-    let at = c.requires.limits.0 in
+    let at = c.requires.0 in
     (and_parts (nat_lt c.in-Many.of at && nat_le 1 c.in-Many.over && nat_le c.in-Many.over max_item_weight) (list_all is_item c.in-Many.items)
-    (rw c.in-Many.is at c.requires.limits.1)).1
+    (rw c.in-Many.is at c.requires.1)).1
 
 pub runs_to_json-requires : goal.runs_to_json-requires
 runs_to_json-requires c =
-    let at = c.requires.limits.0 in
-    (and_parts (nat_lt c.in-Shave.of at) (list_all is_run c.in-Shave.runs) (rw c.in-Shave.is at c.requires.limits.1)).1
+    let at = c.requires.0 in
+    (and_parts (nat_lt c.in-Shave.of at) (list_all is_run c.in-Shave.runs) (rw c.in-Shave.is at c.requires.1)).1
 
 pub returns-in_ok-items-in-Many : goal.returns-in_ok-items-in-Many
 returns-in_ok-items-in-Many c =
@@ -54,3 +54,19 @@ returns-in-Set c =
     rw c.in-Set.is (IfOk-weaker c.set_of.result (λ v. view v ≡ set_data c.set_name.result.now c.in-Set.left c.in-Set.right)
     (λ v. StepReadsAs (step.Set c.in-Set.kind c.in-Set.left c.in-Set.right) (view v))
     (λ v is. rw (is, c.set_name.ensures) (reads-set c.in-Set.kind c.in-Set.left c.in-Set.right)) c.set_of.ensures)
+
+pub returns-in_ok-right_key-in-Join : goal.returns-in_ok-right_key-in-Join
+returns-in_ok-right_key-in-Join c =
+    rw c.in-Join.is (IfOk-weaker c.join_of.result
+    (λ v. view v ≡ join_data c.in-Join.left c.in-Join.right (view c.in_ok-left_key-in-Join.left_key) (view c.in_ok-right_key-in-Join.right_key))
+    (λ v. StepReadsAs (step.Join c.in-Join.left c.in-Join.right c.in-Join.left_key c.in-Join.right_key) (view v))
+    (λ v is. rw is (reads-join c.in-Join.left c.in-Join.right c.in-Join.left_key c.in-Join.right_key (view c.in_ok-left_key-in-Join.left_key)
+    (view c.in_ok-right_key-in-Join.right_key) c.in_ok-left_key-in-Join.ensures c.in_ok-right_key-in-Join.ensures)) c.join_of.ensures)
+
+pub returns-in_ok-reduce-in-Group : goal.returns-in_ok-reduce-in-Group
+returns-in_ok-reduce-in-Group c =
+    rw c.in-Group.is (IfOk-weaker c.group_of.result
+    (λ v. view v ≡ group_data c.in-Group.of (view c.in_ok-key-in-Group.key) (view c.in_ok-reduce-in-Group.reduce))
+    (λ v. StepReadsAs (step.Group c.in-Group.of c.in-Group.key c.in-Group.reduce) (view v))
+    (λ v is. rw is (reads-group c.in-Group.of c.in-Group.key c.in-Group.reduce (view c.in_ok-key-in-Group.key) (view c.in_ok-reduce-in-Group.reduce)
+    c.in_ok-key-in-Group.ensures c.in_ok-reduce-in-Group.ensures)) c.group_of.ensures)

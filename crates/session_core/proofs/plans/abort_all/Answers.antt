@@ -19,7 +19,6 @@ loop-planned-preserved c =
     let h = c.loop-planned.invariant.after types F G all at item (omega arith) lt in
     record {
       holds = record {
-        built = h.built;
         accepted = h.accepted;
         fits = h.fits;
         size = h.size;

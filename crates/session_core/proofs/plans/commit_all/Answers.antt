@@ -20,7 +20,6 @@ loop-planned-preserved c =
     let h = c.loop-planned.invariant.after types F G all at item (omega arith) lt in
     record {
       holds = record {
-        built = h.holds.built;
         accepted = h.holds.accepted;
         fits = h.fits;
         size = h.size;

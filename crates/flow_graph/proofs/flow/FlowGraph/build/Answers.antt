@@ -23,7 +23,7 @@ pub fill_plan-requires-clause-fresh : goal.fill_plan-requires-clause-fresh
 fill_plan-requires-clause-fresh g c =
     let plan = c.args.plan.now in
     let types = c.args.types.now in
-    let kept : IsKept plan types = record { steps = c.len-steps.ensures.plan; nodes = c.requires.nodes; accepted = c.requires.accepted } in
+    let kept : IsKept plan types = record { steps = c.len-steps.ensures.plan; accepted = c.requires.accepted } in
     PlanStands-fresh plan types kept node_standing c.as_mut_slice.result.now c.new-out.result
     (subst (λ ns. AreFresh node_standing ns (plan_meanings plan types)) (sym c.as_mut_slice.ensures.value) c.in_ok-nodes.ensures) c.new-out.ensures.committed
 

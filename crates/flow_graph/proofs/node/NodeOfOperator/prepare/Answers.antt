@@ -16,6 +16,12 @@ prepare-requires-in-Shave-clause-inputs g c = rw c.in-Shave.is at c.requires.inp
 pub prepare-requires-in-Set-clause-inputs : goal.prepare-requires-in-Set-clause-inputs
 prepare-requires-in-Set-clause-inputs g c = rw c.in-Set.is at c.requires.inputs
 
+pub prepare-requires-in-Join-clause-inputs : goal.prepare-requires-in-Join-clause-inputs
+prepare-requires-in-Join-clause-inputs g c = rw c.in-Join.is at c.requires.inputs
+
+pub prepare-requires-in-Group-clause-inputs : goal.prepare-requires-in-Group-clause-inputs
+prepare-requires-in-Group-clause-inputs g c = rw c.in-Group.is at c.requires.inputs
+
 pub returns-in-Filter-clause-ok : goal.returns-in-Filter-clause-ok
 returns-in-Filter-clause-ok g c = rw c.in-Filter.is c.prepare.ensures.ok
 
@@ -30,3 +36,9 @@ returns-in-Shave-clause-ok g c = rw c.in-Shave.is c.prepare-in-Shave.ensures.ok
 
 pub returns-in-Set-clause-ok : goal.returns-in-Set-clause-ok
 returns-in-Set-clause-ok g c = rw c.in-Set.is c.prepare-in-Set.ensures.ok
+
+pub returns-in-Join-clause-ok : goal.returns-in-Join-clause-ok
+returns-in-Join-clause-ok g c = rw c.in-Join.is c.prepare-in-Join.ensures.ok
+
+pub returns-in-Group-clause-ok : goal.returns-in-Group-clause-ok
+returns-in-Group-clause-ok g c = rw c.in-Group.is c.prepare-in-Group.ensures.ok

@@ -18,14 +18,10 @@ use Rattle.session_core.specs.Parts.{state_of}
 use Rattle.session_core.specs.State.{SourceState, family_of, new_plan, type_of, types_of}
 use Rattle.session_core.specs.declared.parts.Parts.{Parts}
 use Rattle.session_core.specs.declared.plans.Planned.{Planned}
-use Rattle.session_core.proofs.Buildable.{have_nodes-built}
 use Rattle.session_core.proofs.NewPlans.{Does-grown, length-checked, planned_unfit}
 use Rattle.session_core.proofs.Outcomes.{Does-refused}
 use Rattle.session_core.proofs.Typed.{Keeps-sound}
 use Rattle.session_core.proofs.parts.Parts.build.Goals as goal
-
-pub build-requires-clause-nodes : goal.build-requires-clause-nodes
-build-requires-clause-nodes g c = have_nodes-built c.args.plan c.requires.built
 
 pub build-requires-clause-keeps : goal.build-requires-clause-keeps
 build-requires-clause-keeps g c =
@@ -72,7 +68,6 @@ returns g c =
       plans_room = omega (arith, c.requires.settled.kept.plans_room, c.push.ensures.capacity);
     }) c.requires.settled c.requires.new (record {
       holds = record {
-        built = c.requires.built;
         accepted = c.requires.checked.0;
         fits = ap₂ (λ (plan : List Step) (ts : List SourceType). misfit plan ts F) (sym c.in-Ok.ensures.graph.0) (sym is) ∙ stands.plan.family.fits;
         size = size;

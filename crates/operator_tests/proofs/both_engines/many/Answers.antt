@@ -1,0 +1,18 @@
+-- Both engines begin without rows.
+use Rattle.std.proofs.Common.{ap, ◌∙◌}
+use Rattle.op_linear.specs.Many.{ManyParts}
+use Rattle.operator_tests.proofs.Empty.{many_fits-empty, takes-one}
+use Rattle.operator_tests.proofs.Trials.{Serves-start}
+use Rattle.operator_tests.proofs.both_engines.many.Goals as goal
+
+pub follow_both-requires-clause-whole : goal.follow_both-requires-clause-whole
+follow_both-requires-clause-whole g c =
+    let engine = c.new-whole.result in
+    let is = ap (λ (op : ManyParts). op.cols) (c.new-whole.ensures.op ∙ c.new-many.ensures) ∙ c.two_ints.ensures in
+    Serves-start _ engine c.new-whole.ensures.idle c.new-whole.ensures.stands (many_fits-empty engine.op) (λ C D left right. takes-one engine.op.cols is C left)
+
+pub follow_both-requires-clause-keyed : goal.follow_both-requires-clause-keyed
+follow_both-requires-clause-keyed g c =
+    let engine = c.new-keyed.result in
+    let is = ap (λ (op : ManyParts). op.cols) (c.new-keyed.ensures.op ∙ c.new-other.ensures) ∙ c.two_ints-2.ensures in
+    Serves-start _ engine c.new-keyed.ensures.idle c.new-keyed.ensures.stands (many_fits-empty engine.op) (λ C D left right. takes-one engine.op.cols is C left)

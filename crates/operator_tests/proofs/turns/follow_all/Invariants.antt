@@ -1,0 +1,7 @@
+use Rattle.std.proofs.Common.{◌≡◌}
+use Rattle.operator_tests.specs.Trials.{Serves}
+use Rattle.operator_tests.proofs.turns.follow_all.Given as goal
+
+abbrev pub invariant-loop-turn : goal.invariant-loop-turn
+invariant-loop-turn g l =
+    (l.left.pending ≡ l.left.committed) × (l.right.pending ≡ l.right.committed) × Serves g.E.Operator.standing l.engine l.left.committed l.right.committed

@@ -1,4 +1,0 @@
-use Rattle.set_tests.proofs.linear.rows_that_pass_are_kept.Given as goal
-
-abbrev pub ghosts-keep_rows : goal.ghosts-keep_rows
-ghosts-keep_rows g a = record { name = a.blank.name; parts = a.blank.parts }
