@@ -1,0 +1,3 @@
+pub mod AskRanges
+pub mod Amounts
+pub mod Charges
