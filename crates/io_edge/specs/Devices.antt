@@ -1,5 +1,5 @@
 -- What contracts see of the devices.
-use Rattle.std.specs.Prelude.{ℕ, List}
+use Rattle.std.specs.Prelude.{ℕ, ℤ, List}
 use Rattle.io_edge.specs.Shelf.{Files}
 
 -- a source in memory
@@ -23,6 +23,19 @@ pub record MemorySink : Type 0 where
   pub room : ℕ
   -- the most bytes that a call takes
   pub piece : ℕ
+  -- the numbers of the calls that fail
+  pub fails : List ℕ
+  -- the number of the next call
+  pub calls : ℕ
+  -- how often it failed
+  pub faults : ℕ
+
+-- a source of noise in memory
+pub record MemoryNoise : Type 0 where
+  -- the numbers that it gave, each after its epsilon
+  pub given : List (ℕ × ℤ)
+  -- the numbers not given yet
+  pub left : List ℤ
   -- the numbers of the calls that fail
   pub fails : List ℕ
   -- the number of the next call

@@ -7,6 +7,7 @@
 mod copy;
 mod device;
 mod failed;
+mod mem_noise;
 mod mem_shelf;
 mod mem_sink;
 mod mem_source;
@@ -19,6 +20,7 @@ mod writer_sink;
 
 pub use device::{Noise, Shelf, Sink, Source};
 pub use failed::Failed;
+pub use mem_noise::MemNoise;
 pub use mem_shelf::MemShelf;
 pub use mem_sink::MemSink;
 pub use mem_source::MemSource;

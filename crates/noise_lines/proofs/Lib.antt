@@ -1,0 +1,3 @@
+pub mod LineFronts
+pub mod Numbers
+pub mod Parts
