@@ -1,6 +1,6 @@
 -- What tests keep of graphs, as their sources change.
 use Rattle.std.specs.Prelude.{◌≡◌, ℕ, zero, suc, ◌<◌, All, true, List, [], ◌∷◌, length, slice_get, Some}
-use Rattle.std.proofs.Common.{sym, ap, subst, ◌∙◌, arith, set}
+use Rattle.std.proofs.Common.{sym, ap, subst, ◌∙◌, arith, set, true≢false}
 use Rattle.std.proofs.lemmas.List.Elements.{All-get_or}
 use Rattle.std.proofs.lemmas.List.{get_or-set_other, get_or-set_same}
 use Rattle.std.proofs.lemmas.Option.{get_or_from_slice_get, same_Some, slice_get_within}

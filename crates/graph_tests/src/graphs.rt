@@ -57,8 +57,7 @@ fn two_sets(alloc: Global) -> Result<SourceSet, Memory>
 }
 
 // The second numbers of the rows of a source.
-fn select_plan(alloc: Global, name: Name) -> Result<Plan, Memory>
-{
+fn select_plan(alloc: Global, name: Name) -> Result<Plan, Memory> {
     let mut steps = Vec::new(alloc);
     steps.push(Step::Source { name })?;
     let row = only_second_column(alloc)?;
@@ -67,8 +66,7 @@ fn select_plan(alloc: Global, name: Name) -> Result<Plan, Memory>
 }
 
 // The rows of the second source whose second number isn't 0. The first one is a step, but not its input.
-fn filter_plan(alloc: Global, first: Name, second: Name) -> Result<Plan, Memory>
-{
+fn filter_plan(alloc: Global, first: Name, second: Name) -> Result<Plan, Memory> {
     let mut steps = Vec::new(alloc);
     steps.push(Step::Source { name: first })?;
     steps.push(Step::Source { name: second })?;

@@ -18,7 +18,8 @@ use steps::Steps;
 use trial_rows::{ratio, row_of};
 
 // The paths of two edges whose ends differ.
-const PATHS: &str = "{\"format\":1,\"steps\":[{\"do\":\"source\",\"name\":\"first\"},{\"do\":\"join\",\"left\":0,\"right\":0,\"left_key\":[{\"col\":1}],\"right_key\":[{\"col\":0}]},{\"do\":\"where\",\"of\":1,\"if\":{\"call\":\"ne\",\"args\":[{\"col\":0},{\"col\":3}]}}]}";
+const PATHS: &str =
+    "{\"format\":1,\"steps\":[{\"do\":\"source\",\"name\":\"first\"},{\"do\":\"join\",\"left\":0,\"right\":0,\"left_key\":[{\"col\":1}],\"right_key\":[{\"col\":0}]},{\"do\":\"where\",\"of\":1,\"if\":{\"call\":\"ne\",\"args\":[{\"col\":0},{\"col\":3}]}}]}";
 
 // Some paths: of two steps in the ring, of a step and a chord, of two chords, and of a step back.
 const SOME: [[i64; 4]; 4] = [[3, 4, 4, 5], [3, 4, 4, 11], [3, 10, 10, 17], [4, 3, 3, 2]];
@@ -68,17 +69,17 @@ fn put_ring<L: Ledger>(
     alloc: Global,
     plan: &Plan,
     trial: &mut Trial,
-    reach: i64,
+    reach: u32,
     weight: i64,
     steps: &mut Steps<L>,
 ) -> Result<(), Fail>
     requires running { IsRunning trial.old.graph trial.old.types trial.old.sources }
-    requires reach { 0 ≤ reach }
     requires near { reach < 50 }
     ensures { OnOk result (IsRunning trial.new.graph trial.new.types trial.new.sources) }
 {
-    for node in 0..50i64 {
-        put_edge(rt, alloc, trial, (node, (node + reach) % 50, weight), steps)?;
+    for node in 0..50u32 {
+        let edge = (i64::from(node), i64::from((node + reach) % 50), weight);
+        put_edge(rt, alloc, trial, edge, steps)?;
         if node % 10 == 9 {
             assert_eq!(rt; is_as_fresh(alloc, plan, trial, steps)?, true);
         }

@@ -12,7 +12,7 @@ mod target;
 mod thing;
 
 pub use field_text::FieldText;
-pub use lists::{Bytes, Rows, Uses, Weights};
+pub use lists::{Bytes, Rows, Uses, Weights, Wides};
 pub use read_fault::ReadFault;
 pub use record_text::Memory;
 pub use refusal::Refusal;

@@ -1,5 +1,5 @@
 //! The lists that requests and replies hold.
-ghost use Rattle.std.specs.Prelude.{◌≡◌, ℕ, List};
+ghost use Rattle.std.specs.Prelude.{◌≡◌, ℕ, ℤ, List};
 ghost use Rattle.ratios.specs.Ratio.{Ratio};
 ghost use Rattle.record_text.specs.declared.atom.Atom.{Atom};
 
@@ -113,6 +113,34 @@ impl Uses {
 
     /// The sources and numbers, lent.
     pub fn as_slice(&self) -> &[(Name, u64)]
+        ensures { result.now ≡ self.now }
+    {
+        self.list.as_slice()
+    }
+}
+
+/// Whole numbers of 128 bits, in order.
+#[derive(Drop)]
+pub struct Wides {
+    list: Vec<i128>,
+}
+
+impl Model for Wides {
+    ghost Value = { List ℤ };
+
+    ghost view = { λ wides. wides.list.items };
+}
+
+impl Wides {
+    /// The numbers of this list.
+    pub fn from_vec(list: Vec<i128>) -> Wides
+        ensures { result ≡ list.items }
+    {
+        Wides { list }
+    }
+
+    /// The numbers, lent.
+    pub fn as_slice(&self) -> &[i128]
         ensures { result.now ≡ self.now }
     {
         self.list.as_slice()

@@ -105,4 +105,14 @@ pub enum Refusal {
         plan: Name,
         step: usize,
     },
+    /// More is asked of the source's budget than is left of it, both in millionths of epsilon.
+    #[error("of the budget of {0} only {left} are left", source.as_str())]
+    Budget {
+        source: Name,
+        left: u64,
+        asked: u64,
+    },
+    /// The noise failed.
+    #[error("the noise failed")]
+    Noise,
 }

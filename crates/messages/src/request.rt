@@ -35,9 +35,20 @@ pub enum Request {
     Drop {
         plan: Name,
     },
+    /// The weights of 1 to 1,024 rows in the plan's output, each with a number of noise. For each use of a source
+    /// its budget is charged the epsilon, which is 1 to 1,000,000,000 millionths.
+    Measure {
+        plan: Name,
+        rows: Rows,
+        epsilon: u64,
+    },
     /// The weights of 1 to 1,024 rows.
     Exact {
         of: Target,
         rows: Rows,
+    },
+    /// The budget of the source, and what is spent of it.
+    Budget {
+        source: Name,
     },
 }

@@ -1,9 +1,8 @@
 -- Group: each key's rows, reduced at each level of their weights.
-use Rattle.std.specs.Prelude.{◌&&◌, ◌≡◌, ◌≢◌, Bool, false, List, [], ◌∷◌, length, map, nat_lt, Option, Some, None}
+use Rattle.std.specs.Prelude.{◌&&◌, ◌≡◌, ◌≢◌, Bool, List, length, map, nat_lt, Option}
 use Rattle.std.specs.Borrow.{Bor}
 use Rattle.std.specs.List.{list_all}
-use Rattle.std.specs.Ordering.{eq_by_cmp}
-use Rattle.ratios.specs.Ratio.{Ratio, ratio_cmp, zero_ratio}
+use Rattle.ratios.specs.Ratio.{zero_ratio}
 use Rattle.record_text.specs.declared.kinds.Kind.{Kind}
 use Rattle.datasets.specs.Dataset.{Dataset, at, empty}
 use Rattle.datasets.specs.Entries.{Entries, Row}
@@ -53,13 +52,3 @@ ordered order = entries_of (map (λ e. e.now) order)
 -- their output, or nothing where a value is out of range
 abbrev pub walked : Reducer → Row → Entries → Option Dataset
 walked reduce k es = walked_by (with_taken reduce) (answer reduce) none_taken k es
-
--- the first weight, if there is one
-abbrev pub first_weight : Entries → Option Ratio
-first_weight [] = None
-first_weight (e ∷ es) = Some e.1
-
--- the next weight is there, and the same
-abbrev pub is_same_next : Ratio → Option Ratio → Bool
-is_same_next w None = false
-is_same_next w (Some u) = eq_by_cmp ratio_cmp w u

@@ -1,10 +1,10 @@
 //! The walk over a part, from the highest level down.
-ghost use Rattle.std.specs.Prelude.{◌≡◌, ◌<◌, ◌++◌, [], ◌∷◌, All, IfErr, IfOk, None, OnOk, Some, drop, false, length, option_to_list, true};
+ghost use Rattle.std.specs.Prelude.{◌≡◌, ◌<◌, ◌++◌, [], ◌∷◌, All, IfErr, IfOk, None, OnOk, Some, drop, false, length, true};
 ghost use Rattle.ratios.specs.Range.{checked};
 ghost use Rattle.operators.specs.Operators.{down_to};
 ghost use Rattle.weighted_set.specs.declared.part_op.OpFault.TheVariants as fault;
-ghost use Rattle.level_walks.specs.Walks.{half_fits, with_half};
-ghost use Rattle.op_groupby.specs.Group.{first_weight, is_same_next, ordered, walked};
+ghost use Rattle.level_walks.specs.Walks.{half_fits, ties_with, weights_of, with_half};
+ghost use Rattle.op_groupby.specs.Group.{ordered, walked};
 ghost use Rattle.op_groupby.specs.Taking.{ReadsRow};
 
 use crate::taken::Taken;
@@ -28,37 +28,28 @@ fn followed_by(alloc: Global, row: &Row, atom: Atom) -> Result<Row, Memory>
     Ok(Row::from_atoms(atoms))
 }
 
-// The weight at a place, if there is one.
-fn weight_at(order: &[&Weighted], at: usize) -> Option<Frac>
-    ensures { result ≡ first_weight (drop at (ordered order.now)) }
+// Whether the row at a place is there, and has this weight.
+fn is_tie(weight: Frac, order: &[&Weighted], at: usize) -> bool
+    ensures { result ≡ ties_with weight (drop at (ordered order.now)) }
 {
     if at < order.len() {
-        Some(order[at].weight)
+        weight == order[at].weight
     } else {
-        None
+        false
     }
 }
 
-// Whether the next weight is there, and the same.
-fn is_same_next(weight: Frac, next: &Option<Frac>) -> bool
-    ensures { result ≡ is_same_next weight next.now }
-{
-    match next {
-        Some(next) => weight == *next,
-        None => false,
-    }
-}
-
-// What a weight is above the next lower one, or the weight itself where there is none; `None` where that is
-// out of range.
-fn gap_below(weight: Frac, next: Option<Frac>) -> Option<Frac>
-    ensures { result ≡ checked (down_to weight (option_to_list next)) }
+// What a weight is above that of the row at a place, or the weight itself where no row is there; `None` where
+// that is out of range.
+fn gap_above(weight: Frac, order: &[&Weighted], at: usize) -> Option<Frac>
+    ensures { result ≡ checked (down_to weight (weights_of (drop at (ordered order.now)))) }
 {
     // Tells that the weight is in range.
     let _numerator = weight.numer();
-    match next {
-        Some(next) => weight.sub(next),
-        None => Some(weight),
+    if at < order.len() {
+        weight.sub(order[at].weight)
+    } else {
+        Some(weight)
     }
 }
 
@@ -92,11 +83,10 @@ pub fn walk(alloc: Global, key: &Row, reduce: Reducer, order: &[&Weighted]) -> R
     for at in 0..order.len() {
         let entry = order[at];
         taken.take(reduce, &entry.row);
-        let next = weight_at(order, at + 1);
-        if is_same_next(entry.weight, &next) {
+        if is_tie(entry.weight, order, at + 1) {
             continue;
         }
-        let Some(gap) = gap_below(entry.weight, next) else {
+        let Some(gap) = gap_above(entry.weight, order, at + 1) else {
             return Err(OpFault::Range);
         };
         let atom = taken.answer(reduce)?;

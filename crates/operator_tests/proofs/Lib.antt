@@ -1,3 +1,4 @@
 pub mod ListedParts
+pub mod GroupedParts
 pub mod Empty
 pub mod Trials

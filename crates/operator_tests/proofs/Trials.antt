@@ -14,26 +14,26 @@ use Rattle.trial_rows.proofs.ChangedColumns.{HasColumns-applied}
 use Rattle.trial_rows.specs.Columns.{two_ints}
 use Rattle.operator_tests.specs.Trials.{Serves}
 
-module _ {E : Type 0} (of : E → Standing) (engine : E) (A B : Dataset) (left right : List Change) (serves : Serves of engine A B)
-(left_rows : All (λ (c : Change). kinds_of c.row ≡ two_ints) left) (right_rows : All (λ (c : Change). kinds_of c.row ≡ two_ints) right) where
-  pub left_applied : HasColumns two_ints (applied A left)
-  left_applied = HasColumns-applied two_ints A left serves.left_columns left_rows
+module _ {E : Type 0} (of : E → Standing) (engine : E) (A B : Dataset) (left right : List Change) (serves : Serves of engine A B) where
+  module _ (left_rows : All (λ (c : Change). kinds_of c.row ≡ two_ints) left) (right_rows : All (λ (c : Change). kinds_of c.row ≡ two_ints) right) where
+    pub left_applied : HasColumns two_ints (applied A left)
+    left_applied = HasColumns-applied two_ints A left serves.left_columns left_rows
 
-  pub right_applied : HasColumns two_ints (applied B right)
-  right_applied = HasColumns-applied two_ints B right serves.right_columns right_rows
+    pub right_applied : HasColumns two_ints (applied B right)
+    right_applied = HasColumns-applied two_ints B right serves.right_columns right_rows
 
-  -- the engine may be asked for changes of rows of two numbers
-  pub MayBecome-served : AllInRange A → AllInRange B → AreChangesOf left A → AreChangesOf right B → MayBecome (of engine) left right A B (applied A left) (applied B right)
-  MayBecome-served left_in_range right_in_range can_left can_right = record {
-    stands = serves.stands;
-    left_changes = changes_are_change_list left A can_left;
-    right_changes = changes_are_change_list right B can_right;
-    left_in_range = left_in_range;
-    right_in_range = right_in_range;
-    fits_before = serves.fits;
-    takes_before = serves.takes A B serves.left_columns serves.right_columns;
-    takes_after = serves.takes (applied A left) (applied B right) left_applied right_applied;
-  }
+    -- the engine may be asked for changes of rows of two numbers
+    pub MayBecome-served : AllInRange A → AllInRange B → AreChangesOf left A → AreChangesOf right B → MayBecome (of engine) left right A B (applied A left) (applied B right)
+    MayBecome-served left_in_range right_in_range can_left can_right = record {
+      stands = serves.stands;
+      left_changes = changes_are_change_list left A can_left;
+      right_changes = changes_are_change_list right B can_right;
+      left_in_range = left_in_range;
+      right_in_range = right_in_range;
+      fits_before = serves.fits;
+      takes_before = serves.takes A B serves.left_columns serves.right_columns;
+      takes_after = serves.takes (applied A left) (applied B right) left_applied right_applied;
+    }
 
 -- the engine serves what is committed
 pub Serves-settled : {E : Type 0} (of : E → Standing) (old new : E) (A B C D : Dataset) (is_kept : Bool) → Serves of old A B → HasColumns two_ints C → HasColumns two_ints D → (of old).meaning.fits C D ≡ true

@@ -35,11 +35,7 @@ pub fn follow_both<W: Operator, K: Operator, L: Ledger>(
 }
 
 /// A turn of the left input alone.
-pub fn on_left<'a>(
-    left: &'a [Added],
-    is_kept: bool,
-    listed: Option<&'a [Shown<'a>]>,
-) -> Turn<'a> {
+pub fn on_left<'a>(left: &'a [Added], is_kept: bool, listed: Option<&'a [Shown<'a>]>) -> Turn<'a> {
     Turn {
         left,
         right: &[],
@@ -162,10 +158,7 @@ fn shave<L: Ledger>(rt: &impl Abort, alloc: Global, blank: Blank) -> Result<(), 
         on_left(
             &[(1, 7, 3, 1)],
             true,
-            Some(&[
-                (&[1, 7, 0], (0, 1), (1, 1)),
-                (&[1, 7, 1], (0, 1), (1, 1)),
-            ]),
+            Some(&[(&[1, 7, 0], (0, 1), (1, 1)), (&[1, 7, 1], (0, 1), (1, 1))]),
         ),
         on_left(
             &[(1, 7, -2, 1)],
@@ -181,7 +174,11 @@ fn shave<L: Ledger>(rt: &impl Abort, alloc: Global, blank: Blank) -> Result<(), 
                 (&[2, 7, 0], (0, 1), (1, 1)),
             ]),
         ),
-        on_left(&[(2, 7, -2, 1)], true, Some(&[(&[2, 7, 0], (1, 1), (0, 1))])),
+        on_left(
+            &[(2, 7, -2, 1)],
+            true,
+            Some(&[(&[2, 7, 0], (1, 1), (0, 1))]),
+        ),
     ];
     let mut steps: Steps<L> = Steps::new(blank);
     let shave = ShaveOp::new(two_pieces(alloc)?, two_ints());

@@ -5,6 +5,8 @@
 #[cfg(test)]
 mod both_engines;
 #[cfg(test)]
+mod grouped_parts;
+#[cfg(test)]
 mod joined_grouped;
 #[cfg(test)]
 mod linear;

@@ -4,6 +4,8 @@
 #[cfg(test)]
 mod joins_groups;
 #[cfg(test)]
+mod measures;
+#[cfg(test)]
 mod plan_steps;
 #[cfg(test)]
 mod plans;

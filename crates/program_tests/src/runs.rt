@@ -1,7 +1,7 @@
 //! Runs of the top call over devices in memory.
 ghost use Rattle.std.specs.Prelude.{◌≤◌, ◌≢◌};
 
-use io_edge::{MemShelf, MemSink, MemSource, SureNoise, SureSink, SureSource};
+use io_edge::{MemShelf, MemSink, MemSource, Noise, SureNoise, SureSink, SureSource};
 use std::alloc::Global;
 use std::test::Fail;
 use wpinq_program::{Ending, MAX_BYTES, Word, wpinq};
@@ -11,26 +11,19 @@ const SUM: &str = "{\"op\":\"sum\",\"weights\":[\"1/2\",\"1/3\"]}\n";
 const SUM_REPLY: &str = "{\"ok\":true,\"sum\":\"5/6\"}\n";
 
 /// Runs the top call under these words over these devices: how it ends, and what was written.
-fn run(
+fn run<N: Noise>(
     alloc: Global,
     texts: &[&str],
     mut source: MemSource,
     mut sink: MemSink,
+    noise: &mut N,
 ) -> Result<(Ending, String), Fail> {
     let mut words = Vec::new(alloc);
     for text in texts {
         words.push(Word::new(String::from_str(alloc, text)?))?;
     }
-    let mut noise = SureNoise::new();
     let mut shelf = MemShelf::new(alloc);
-    let ending = wpinq(
-        alloc,
-        &words,
-        &mut source,
-        &mut sink,
-        &mut noise,
-        &mut shelf,
-    );
+    let ending = wpinq(alloc, &words, &mut source, &mut sink, noise, &mut shelf);
     let written = Vec::from_slice(alloc, sink.bytes())?;
     Ok((ending, String::from_utf8(written)?))
 }
@@ -44,10 +37,23 @@ pub fn answer(
 ) -> Result<(Ending, String), Fail>
     requires { 1 ≤ piece }
 {
+    answer_over(alloc, texts, input, piece, &mut SureNoise::new())
+}
+
+/// The same with this noise.
+pub fn answer_over<N: Noise>(
+    alloc: Global,
+    texts: &[&str],
+    input: &str,
+    piece: usize,
+    noise: &mut N,
+) -> Result<(Ending, String), Fail>
+    requires { 1 ≤ piece }
+{
     let bytes = Vec::from_slice(alloc, input.as_bytes())?;
     let source = MemSource::new(bytes, piece, Vec::new(alloc));
     let sink = MemSink::new(alloc, 10_000, 7, Vec::new(alloc))?;
-    run(alloc, texts, source, sink)
+    run(alloc, texts, source, sink, noise)
 }
 
 #[test]
@@ -190,7 +196,7 @@ fn a_read_fault_in_the_second_line_leaves_the_first_reply(rt: HostRuntime) -> Re
     let input = format!(in alloc; "{SUM}{SUM}")?.into_bytes();
     let source = MemSource::new(input, 50, [1].to_vec(alloc)?);
     let sink = MemSink::new(alloc, 100, 100, Vec::new(alloc))?;
-    let (ending, written) = run(alloc, &[], source, sink)?;
+    let (ending, written) = run(alloc, &[], source, sink, &mut SureNoise::new())?;
     assert_eq!(rt; written.as_str(), SUM_REPLY);
     assert_eq!(rt; (ending.status, ending.lines), (3, 1));
     Ok(())
@@ -202,7 +208,7 @@ fn a_write_fault_leaves_a_front_of_the_reply(rt: HostRuntime) -> Result<(), Fail
     let input = SUM.as_bytes().to_vec(alloc)?;
     let source = MemSource::new(input, 64, Vec::new(alloc));
     let sink = MemSink::new(alloc, 100, 3, [1].to_vec(alloc)?)?;
-    let (ending, written) = run(alloc, &[], source, sink)?;
+    let (ending, written) = run(alloc, &[], source, sink, &mut SureNoise::new())?;
     assert_eq!(rt; written.as_str(), "{\"o");
     assert_eq!(rt; (ending.status, ending.lines), (4, 1));
     Ok(())

@@ -1,6 +1,7 @@
 //! Sessions with sources: lines in one run, each with its reply.
 
-use crate::runs::answer;
+use crate::runs::{answer, answer_over};
+use io_edge::{Noise, SureNoise};
 use std::alloc::Global;
 use std::process::Abort;
 use std::test::Fail;
@@ -33,6 +34,17 @@ pub fn converse(
     words: &[&str],
     rows: &[(&str, &str)],
 ) -> Result<(), Fail> {
+    converse_over(rt, alloc, words, rows, &mut SureNoise::new())
+}
+
+/// The same with this noise.
+pub fn converse_over<N: Noise>(
+    rt: &impl Abort,
+    alloc: Global,
+    words: &[&str],
+    rows: &[(&str, &str)],
+    noise: &mut N,
+) -> Result<(), Fail> {
     let mut input = String::new(alloc);
     let mut replies = String::new(alloc);
     let lines = (OPENING.len() + rows.len()) as u64;
@@ -42,7 +54,7 @@ pub fn converse(
         replies.push_str(reply)?;
         replies.push('\n')?;
     }
-    let (ending, written) = answer(alloc, words, input.as_str(), 64)?;
+    let (ending, written) = answer_over(alloc, words, input.as_str(), 64, noise)?;
     assert_eq!(rt; written.as_str(), replies.as_str());
     assert_eq!(rt; ending, Ending { status: 0, lines });
     Ok(())

@@ -9,7 +9,7 @@ use Rattle.messages.specs.declared.refusal.Refusal.TheVariants as refusal
 use Rattle.messages.specs.declared.reply.Reply.{Reply}
 use Rattle.messages.specs.declared.reply.Reply.TheVariants as reply
 use Rattle.reply_text.specs.Refusals.{refusal_data}
-use Rattle.reply_text.specs.Replies.{kind_data, reply_data, use_data, weight_data}
+use Rattle.reply_text.specs.Replies.{kind_data, reply_data, use_data, weight_data, wide_data}
 
 -- a list has none where no member has one
 list-plain : {A : Type 0} (f : A → Data) → ((x : A) → has_float (f x) ≡ false) → (xs : List A)
@@ -37,6 +37,8 @@ refusal-plain (refusal.Row at) = refl
 refusal-plain (refusal.Repeat at) = refl
 refusal-plain (refusal.SumRange at) = refl
 refusal-plain (refusal.Range plan step) = refl
+refusal-plain (refusal.Budget source left asked) = refl
+refusal-plain refusal.Noise = refl
 
 reply-plain : (r : Reply) → has_float (reply_data r) ≡ false
 reply-plain reply.Done = refl
@@ -44,7 +46,10 @@ reply-plain (reply.SumOf q) = refl
 reply-plain (reply.Records count) = refl
 reply-plain (reply.Planned cols uses) =
     rw (list-plain kind_data (λ k. refl) cols, list-plain use_data (λ u. refl) uses) refl
+reply-plain (reply.Values charged values) =
+    rw (list-plain use_data (λ u. refl) charged, list-plain wide_data (λ n. refl) values) refl
 reply-plain (reply.Weights qs) = rw (list-plain weight_data (λ q. refl) qs) refl
+reply-plain (reply.Budget left spent total) = refl
 reply-plain (reply.Refused r) = refusal-plain r
 
 -- the value of a reply has no float

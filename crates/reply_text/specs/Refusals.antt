@@ -94,6 +94,13 @@ range_data plan step =
     object (refused (member (codes "plan") (string plan)
     (member (codes "step") (whole step) (cause (codes "range")))))
 
+-- `{"asked":2,"left":1,"ok":false,"source":"a","why":"budget"}`
+abbrev pub short_data : List ℕ → ℕ → ℕ → Data
+short_data source left asked =
+    object (member (codes "asked") (whole asked)
+    (member (codes "left") (whole left)
+    (refused (member (codes "source") (string source) (cause (codes "budget"))))))
+
 -- ---- a refusal
 
 -- the object of a refusal
@@ -116,3 +123,5 @@ refusal_data (refusal.Row at) = row_fault_data at (codes "row")
 refusal_data (refusal.Repeat at) = row_fault_data at (codes "repeat")
 refusal_data (refusal.SumRange at) = sum_range_data at
 refusal_data (refusal.Range plan step) = range_data plan step
+refusal_data (refusal.Budget source left asked) = short_data source left asked
+refusal_data refusal.Noise = object (refused_for (codes "noise"))

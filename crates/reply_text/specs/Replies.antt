@@ -1,5 +1,6 @@
 -- The line of a reply: the compact text of an object with its keys in byte order, and a line feed.
-use Rattle.std.specs.Prelude.{ℕ, List, [], ◌∷◌, ◌++◌, map, true, codes}
+use Rattle.std.specs.Prelude.{ℕ, ℤ, List, [], ◌∷◌, ◌++◌, map, true, codes}
+use Rattle.std.specs.Fmt.{signed_decimal}
 use Rattle.ratios.specs.Ratio.{Ratio}
 use Rattle.frac_core.specs.Text.{ratio_text}
 use Rattle.serde_json.specs.Data.{Data, boolean, string, array, object, Members, no_members, member}
@@ -24,6 +25,10 @@ use_data u = array (items_of (string u.0 ∷ whole u.1 ∷ []))
 -- a weight, as its text
 abbrev pub weight_data : Ratio → Data
 weight_data q = string (ratio_text q)
+
+-- a whole number, as its text
+abbrev pub wide_data : ℤ → Data
+wide_data n = string (signed_decimal n)
 
 -- a list of such values
 abbrev pub list_data : {A : Type 0} → (A → Data) → List A → Data
@@ -57,6 +62,18 @@ planned_data cols uses =
 abbrev pub looked_up_data : List Ratio → Data
 looked_up_data qs = object (done (member (codes "weights") (list_data weight_data qs) no_members))
 
+-- `{"charged":[["a",200000]],"ok":true,"values":["168521"]}`
+abbrev pub measured_data : List (List ℕ × ℕ) → List ℤ → Data
+measured_data charged values =
+    object (member (codes "charged") (list_data use_data charged)
+    (done (member (codes "values") (list_data wide_data values) no_members)))
+
+-- `{"left":1,"ok":true,"spent":2,"total":3}`
+abbrev pub budget_data : ℕ → ℕ → ℕ → Data
+budget_data left spent total =
+    object (member (codes "left") (whole left)
+    (done (member (codes "spent") (whole spent) (member (codes "total") (whole total) no_members))))
+
 -- ---- a reply
 
 -- the object of a reply
@@ -65,7 +82,9 @@ reply_data reply.Done = done_data
 reply_data (reply.SumOf q) = sum_data q
 reply_data (reply.Records count) = records_data count
 reply_data (reply.Planned cols uses) = planned_data cols uses
+reply_data (reply.Values charged values) = measured_data charged values
 reply_data (reply.Weights qs) = looked_up_data qs
+reply_data (reply.Budget left spent total) = budget_data left spent total
 reply_data (reply.Refused r) = refusal_data r
 
 -- the line of a reply; 10 is the line feed

@@ -1,7 +1,7 @@
 //! The lists in replies.
 ghost use Rattle.std.specs.Prelude.{◌≡◌, IfOk, string_bytes};
 ghost use Rattle.frac_core.specs.Text.{ratio_text};
-ghost use Rattle.reply_text.specs.Replies.{kind_data, list_data, use_data, weight_data};
+ghost use Rattle.reply_text.specs.Replies.{kind_data, list_data, use_data, weight_data, wide_data};
 ghost use Rattle.reply_text.specs.Shows.{Shows};
 ghost use Rattle.reply_text.specs.Words.{kind_word};
 
@@ -79,4 +79,16 @@ pub fn weight_text(alloc: Global, weight: Frac) -> Result<String, Memory>
         Ok(text) => Ok(text),
         Err(_) => unreachable!(),
     }
+}
+
+/// The texts of whole numbers, in their order.
+pub fn wides_value(alloc: Global, wides: &[i128]) -> Result<Value, Memory>
+    ensures { Shows result (list_data wide_data wides.now) }
+{
+    let mut list = Vec::with_capacity(alloc, wides.len())?;
+    for wide in wides {
+        let text = format!(in alloc; "{wide}")?;
+        list.push(Value::String(text))?;
+    }
+    Ok(Value::Array(list))
 }

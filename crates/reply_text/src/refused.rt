@@ -1,7 +1,7 @@
 //! From a refusal to its object.
 ghost use Rattle.std.specs.Prelude.{◌≡◌};
 ghost use Rattle.serde_json.specs.Data.{object};
-ghost use Rattle.reply_text.specs.Refusals.{csv_data, field_data, full_data, name_data, over_data, plan_data, range_data, record_data, refusal_data, refused_for, row_fault_data, shape_data, weight_fault_data};
+ghost use Rattle.reply_text.specs.Refusals.{csv_data, field_data, full_data, name_data, over_data, plan_data, range_data, record_data, refusal_data, refused_for, row_fault_data, shape_data, short_data, weight_fault_data};
 ghost use Rattle.reply_text.specs.Shows.{Shows};
 ghost use Rattle.reply_text.specs.Words.{csv_word, fault_word, limit_word, what_word};
 
@@ -36,6 +36,12 @@ pub fn refusal_value(alloc: Global, refusal: &Refusal) -> Result<Value, Memory>
         Refusal::Repeat { at } => row_fault_value(alloc, *at, "repeat"),
         Refusal::SumRange { at } => json!(in alloc; {"at": (*at), "ok": false, "why": "range"}),
         Refusal::Range { plan, step } => range_value(alloc, plan.as_str(), *step),
+        Refusal::Budget {
+            source,
+            left,
+            asked,
+        } => short_value(alloc, source.as_str(), *left, *asked),
+        Refusal::Noise => plain_value(alloc, "noise"),
     }
 }
 
@@ -114,6 +120,12 @@ fn row_fault_value(alloc: Global, at: usize, why: &str) -> Result<Value, Memory>
     ensures { Shows result (row_fault_data at why.now) }
 {
     json!(in alloc; {"ok": false, "row": at, "why": why})
+}
+
+fn short_value(alloc: Global, source: &str, left: u64, asked: u64) -> Result<Value, Memory>
+    ensures { Shows result (short_data source.now left asked) }
+{
+    json!(in alloc; {"asked": asked, "left": left, "ok": false, "source": source, "why": "budget"})
 }
 
 fn fault_text(fault: FracFault) -> &'static str

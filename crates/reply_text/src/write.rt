@@ -1,9 +1,9 @@
 //! From a reply to its line.
 ghost use Rattle.std.specs.Prelude.{◌≡◌, ◌++◌, IfOk, OnOk, OnErr};
-ghost use Rattle.reply_text.specs.Replies.{looked_up_data, planned_data, reply_data, reply_line, sum_data};
+ghost use Rattle.reply_text.specs.Replies.{budget_data, looked_up_data, measured_data, planned_data, reply_data, reply_line, sum_data};
 ghost use Rattle.reply_text.specs.Shows.{Shows};
 
-use crate::lists::{kinds_value, uses_value, weight_text, weights_value};
+use crate::lists::{kinds_value, uses_value, weight_text, weights_value, wides_value};
 use crate::refused::refusal_value;
 use frac_core::Frac;
 use messages::{Memory, Reply};
@@ -39,7 +39,11 @@ fn reply_value(alloc: Global, reply: &Reply) -> Result<Value, Memory>
         Reply::SumOf { sum } => sum_value(alloc, *sum),
         Reply::Records { count } => json!(in alloc; {"ok": true, "records": (*count)}),
         Reply::Planned { cols, uses } => planned_value(alloc, *cols, uses.as_slice()),
+        Reply::Values { charged, values } => {
+            measured_value(alloc, charged.as_slice(), values.as_slice())
+        }
         Reply::Weights { weights } => looked_up_value(alloc, weights.as_slice()),
+        Reply::Budget { left, spent, total } => budget_value(alloc, *left, *spent, *total),
         Reply::Refused(refusal) => refusal_value(alloc, refusal),
     }
 }
@@ -64,4 +68,18 @@ fn looked_up_value(alloc: Global, weights: &[Frac]) -> Result<Value, Memory>
 {
     let weights = weights_value(alloc, weights)?;
     json!(in alloc; {"ok": true, "weights": weights})
+}
+
+fn measured_value(alloc: Global, charged: &[(Name, u64)], values: &[i128]) -> Result<Value, Memory>
+    ensures { Shows result (measured_data charged.now values.now) }
+{
+    let charged = uses_value(alloc, charged)?;
+    let values = wides_value(alloc, values)?;
+    json!(in alloc; {"charged": charged, "ok": true, "values": values})
+}
+
+fn budget_value(alloc: Global, left: u64, spent: u64, total: u64) -> Result<Value, Memory>
+    ensures { Shows result (budget_data left spent total) }
+{
+    json!(in alloc; {"left": left, "ok": true, "spent": spent, "total": total})
 }

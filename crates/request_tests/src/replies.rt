@@ -4,7 +4,9 @@ use frac_core::{Frac, FracFault};
 use plan_model::What;
 use plan_reader::Limit;
 use record_text::{Kind, Kinds, Name};
-use request_text::{CsvWhat, FieldText, Memory, Refusal, Reply, Thing, Uses, Weights, write_reply};
+use request_text::{
+    CsvWhat, FieldText, Memory, Refusal, Reply, Thing, Uses, Weights, Wides, write_reply,
+};
 use std::alloc::Global;
 use std::test::Fail;
 
@@ -37,16 +39,26 @@ fn weights(alloc: Global, pairs: &[(i64, i64)]) -> Result<Reply, Fail> {
     })
 }
 
-// A plan with these columns and uses.
-fn planned(alloc: Global, cols: Kinds, uses: &[(&str, u64)]) -> Result<Reply, Fail> {
+// Sources by name, each with its number.
+fn named(alloc: Global, sources: &[(&str, u64)]) -> Result<Uses, Fail> {
     let mut list = Vec::new(alloc);
-    for (source, count) in uses {
+    for (source, count) in sources {
         list.push((name(source)?, *count))?;
     }
-    Ok(Reply::Planned {
-        cols,
-        uses: Uses::from_vec(list),
-    })
+    Ok(Uses::from_vec(list))
+}
+
+// A plan with these columns and uses.
+fn planned(alloc: Global, cols: Kinds, uses: &[(&str, u64)]) -> Result<Reply, Fail> {
+    let uses = named(alloc, uses)?;
+    Ok(Reply::Planned { cols, uses })
+}
+
+// These values, for which these sources are charged.
+fn measured(alloc: Global, charged: &[(&str, u64)], values: &[i128]) -> Result<Reply, Fail> {
+    let charged = named(alloc, charged)?;
+    let values = Wides::from_vec(Vec::from_slice(alloc, values)?);
+    Ok(Reply::Values { charged, values })
 }
 
 #[test]
@@ -105,6 +117,72 @@ fn writes_weights(rt: HostRuntime) -> Result<(), Fail> {
     ];
     for (pairs, text) in rows {
         let reply = weights(rt.alloc(), pairs)?;
+        let line = reply_text(rt.alloc(), &reply)?;
+        assert_eq!(rt; line.as_slice(), text.as_bytes());
+    }
+    Ok(())
+}
+
+#[test]
+fn writes_measured_values(rt: HostRuntime) -> Result<(), Fail> {
+    let rows: [(&[(&str, u64)], &[i128], &str); 3] = [
+        (
+            &[("a", 200_000)],
+            &[168_521],
+            r#"{"charged":[["a",200000]],"ok":true,"values":["168521"]}"#,
+        ),
+        (
+            &[("a", 1), ("b", 1)],
+            &[496_698, -7],
+            r#"{"charged":[["a",1],["b",1]],"ok":true,"values":["496698","-7"]}"#,
+        ),
+        (
+            &[],
+            &[i128::MIN, 0, i128::MAX],
+            r#"{"charged":[],"ok":true,"values":["-170141183460469231731687303715884105728","0","170141183460469231731687303715884105727"]}"#,
+        ),
+    ];
+    for (charged, values, text) in rows {
+        let reply = measured(rt.alloc(), charged, values)?;
+        let line = reply_text(rt.alloc(), &reply)?;
+        assert_eq!(rt; line.as_slice(), text.as_bytes());
+    }
+    Ok(())
+}
+
+#[test]
+fn writes_budgets_and_their_refusals(rt: HostRuntime) -> Result<(), Fail> {
+    let rows = [
+        (
+            Reply::Budget {
+                left: 100_000,
+                spent: 200_000,
+                total: 300_000,
+            },
+            r#"{"left":100000,"ok":true,"spent":200000,"total":300000}"#,
+        ),
+        (
+            Reply::Refused(Refusal::Budget {
+                source: name("a")?,
+                left: 100_000,
+                asked: 200_000,
+            }),
+            r#"{"asked":200000,"left":100000,"ok":false,"source":"a","why":"budget"}"#,
+        ),
+        (
+            Reply::Refused(Refusal::Budget {
+                source: name("z")?,
+                left: 0,
+                asked: 1,
+            }),
+            r#"{"asked":1,"left":0,"ok":false,"source":"z","why":"budget"}"#,
+        ),
+        (
+            Reply::Refused(Refusal::Noise),
+            r#"{"ok":false,"why":"noise"}"#,
+        ),
+    ];
+    for (reply, text) in rows {
         let line = reply_text(rt.alloc(), &reply)?;
         assert_eq!(rt; line.as_slice(), text.as_bytes());
     }

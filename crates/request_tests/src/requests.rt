@@ -33,7 +33,13 @@ fn shown(alloc: Global, request: &Request) -> Result<Vec<u8>, Fail> {
         } => update_shown(alloc, source, csv.as_slice(), *header),
         Request::Plan { name, plan } => plan_shown(alloc, name, plan),
         Request::Drop { plan } => words(alloc, &[b"drop", plan.as_bytes()]),
+        Request::Measure {
+            plan,
+            rows,
+            epsilon,
+        } => measure_shown(alloc, plan, *epsilon, rows.as_slice()),
         Request::Exact { of, rows } => exact_shown(alloc, of, rows.as_slice()),
+        Request::Budget { source } => words(alloc, &[b"budget", source.as_bytes()]),
     }
 }
 
@@ -98,11 +104,22 @@ fn plan_shown(alloc: Global, name: &Name, plan: &Plan) -> Result<Vec<u8>, Fail> 
     Ok(format!(in alloc; "plan {name} {steps} {source}")?.into_bytes())
 }
 
+fn measure_shown(alloc: Global, plan: &Name, epsilon: u64, rows: &[Row]) -> Result<Vec<u8>, Fail> {
+    let plan = plan.as_str();
+    let text = format!(in alloc; "measure {plan} {epsilon}")?.into_bytes();
+    with_rows(alloc, text, rows)
+}
+
 fn exact_shown(alloc: Global, of: &Target, rows: &[Row]) -> Result<Vec<u8>, Fail> {
-    let mut text = match of {
+    let text = match of {
         Target::Source(name) => words(alloc, &[b"exact source", name.as_bytes()])?,
         Target::Plan(name) => words(alloc, &[b"exact plan", name.as_bytes()])?,
     };
+    with_rows(alloc, text, rows)
+}
+
+// The text, and then the rows.
+fn with_rows(alloc: Global, mut text: Vec<u8>, rows: &[Row]) -> Result<Vec<u8>, Fail> {
     for row in rows {
         let json = row_to_json(alloc, row)?.to_vec(alloc)?;
         text.push(b' ')?;
@@ -173,6 +190,15 @@ fn reads_each_request(rt: HostRuntime) -> Result<(), Fail> {
             "plan p_2 3 a",
         ),
         (r#"{"op":"drop","plan":"zz"}"#, "drop zz"),
+        (
+            r#"{"op":"measure","plan":"s","rows":[[1,1]],"epsilon":100000}"#,
+            "measure s 100000 [1,1]",
+        ),
+        (
+            r#"{"epsilon":1000000000,"rows":[[1,1],["x",8]],"plan":"j","op":"measure"}"#,
+            r#"measure j 1000000000 [1,1] ["x",8]"#,
+        ),
+        (r#"{"op":"budget","source":"a"}"#, "budget a"),
     ];
     for (line, text) in rows {
         let request = read(rt.alloc(), line.as_bytes())?;
@@ -327,6 +353,65 @@ fn refuses_the_first_fault(rt: HostRuntime) -> Result<(), Fail> {
         (
             r#"{"op":"sum","weights":[],"\"\\\/\b\f\n\r\t\u0001Å\u00e5":1}"#,
             r#"{"field":"\"\\/\b\f\n\r\t\u0001Åå","ok":false,"why":"shape"}"#,
+        ),
+    ];
+    for (line, reply) in rows {
+        let answer = read(rt.alloc(), line.as_bytes())?;
+        assert_eq!(rt; answer.as_slice(), reply.as_bytes(), "{line}");
+    }
+    Ok(())
+}
+
+#[test]
+fn refuses_the_first_fault_of_a_measurement_or_a_budget(rt: HostRuntime) -> Result<(), Fail> {
+    let rows = [
+        (
+            r#"{"op":"measure","plan":"j","rows":[[1,1]],"epsilon":0.5}"#,
+            r#"{"field":"epsilon","ok":false,"why":"shape"}"#,
+        ),
+        (
+            r#"{"op":"measure","plan":"j","rows":[[1,1]],"epsilon":0}"#,
+            r#"{"field":"epsilon","ok":false,"why":"shape"}"#,
+        ),
+        (
+            r#"{"op":"measure","plan":"j","rows":[[1,1]],"epsilon":1000000001}"#,
+            r#"{"field":"epsilon","ok":false,"why":"shape"}"#,
+        ),
+        (
+            r#"{"op":"measure","plan":"a-b","rows":[[1,1]],"x":1}"#,
+            r#"{"field":"epsilon","ok":false,"why":"shape"}"#,
+        ),
+        (
+            r#"{"op":"measure","plan":"j","rows":[],"epsilon":0}"#,
+            r#"{"field":"rows","ok":false,"why":"shape"}"#,
+        ),
+        (
+            r#"{"op":"measure","plan":1,"rows":[],"epsilon":0}"#,
+            r#"{"field":"plan","ok":false,"why":"shape"}"#,
+        ),
+        (
+            r#"{"op":"measure","source":"a","rows":[[1]],"epsilon":1}"#,
+            r#"{"field":"plan","ok":false,"why":"shape"}"#,
+        ),
+        (
+            r#"{"op":"measure","plan":"a-b","rows":[[1]],"epsilon":1,"source":"a"}"#,
+            r#"{"field":"source","ok":false,"why":"shape"}"#,
+        ),
+        (
+            r#"{"op":"measure","plan":"a-b","rows":[[1]],"epsilon":1}"#,
+            r#"{"field":"plan","ok":false,"why":"name"}"#,
+        ),
+        (
+            r#"{"op":"budget","plan":"a"}"#,
+            r#"{"field":"source","ok":false,"why":"shape"}"#,
+        ),
+        (
+            r#"{"op":"budget","source":"a-b","plan":"a"}"#,
+            r#"{"field":"plan","ok":false,"why":"shape"}"#,
+        ),
+        (
+            r#"{"op":"budget","source":"a-b"}"#,
+            r#"{"field":"source","ok":false,"why":"name"}"#,
         ),
     ];
     for (line, reply) in rows {

@@ -14,7 +14,9 @@ op_named name =
     else if bytes_eq name (codes "update") then Some op.Update
     else if bytes_eq name (codes "plan") then Some op.Plan
     else if bytes_eq name (codes "drop") then Some op.Drop
+    else if bytes_eq name (codes "measure") then Some op.Measure
     else if bytes_eq name (codes "exact") then Some op.Exact
+    else if bytes_eq name (codes "budget") then Some op.Budget
     else None
 
 -- the operation that the field `op` names
@@ -28,4 +30,6 @@ op_fields op.Source = codes "op" ∷ codes "name" ∷ codes "kinds" ∷ codes "s
 op_fields op.Update = codes "op" ∷ codes "source" ∷ codes "csv" ∷ codes "header" ∷ []
 op_fields op.Plan = codes "op" ∷ codes "name" ∷ codes "plan" ∷ []
 op_fields op.Drop = codes "op" ∷ codes "plan" ∷ []
+op_fields op.Measure = codes "op" ∷ codes "plan" ∷ codes "rows" ∷ codes "epsilon" ∷ []
 op_fields op.Exact = codes "op" ∷ codes "plan" ∷ codes "source" ∷ codes "rows" ∷ []
+op_fields op.Budget = codes "op" ∷ codes "source" ∷ []

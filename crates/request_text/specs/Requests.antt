@@ -72,6 +72,20 @@ drop_in d ms = do
   plan ← named (codes "plan") text
   Ok (request.Drop plan)
 
+-- the greatest epsilon of a measurement, in millionths
+abbrev pub max_epsilon : ℕ
+max_epsilon = 1000000000
+
+-- rows to be measured in a plan's output
+unfoldable pub measure_in : Data → Members → Result Request Refusal
+measure_in d ms = do
+  text ← text_in (codes "plan") d
+  rows ← rows_in d
+  epsilon ← whole_in (codes "epsilon") 1 max_epsilon d
+  known ← no_other (op_fields op.Measure) ms
+  plan ← named (codes "plan") text
+  Ok (request.Measure plan rows epsilon)
+
 -- what rows are looked up in, by its name
 abbrev pub target_named : Thing → List ℕ → Target
 target_named thing.Source name = target.Source name
@@ -87,6 +101,14 @@ exact_in d ms = do
   name ← named (thing_word thing) text
   Ok (request.Exact (target_named thing name) rows)
 
+-- a source whose budget is to be told
+unfoldable pub budget_in : Data → Members → Result Request Refusal
+budget_in d ms = do
+  text ← text_in (codes "source") d
+  known ← no_other (op_fields op.Budget) ms
+  source ← named (codes "source") text
+  Ok (request.Budget source)
+
 -- the request of this operation
 abbrev pub request_in : Data → Members → Op → Result Request Refusal
 request_in d ms op.Sum = sum_in d ms
@@ -94,7 +116,9 @@ request_in d ms op.Source = source_in d ms
 request_in d ms op.Update = update_in d ms
 request_in d ms op.Plan = plan_in d ms
 request_in d ms op.Drop = drop_in d ms
+request_in d ms op.Measure = measure_in d ms
 request_in d ms op.Exact = exact_in d ms
+request_in d ms op.Budget = budget_in d ms
 
 -- an object with a known operation
 unfoldable pub request_of : Data → Result Request Refusal
@@ -126,4 +150,7 @@ IsWithinLimits (request.Source name kinds signed budget) = budget ≤ max_budget
 IsWithinLimits (request.Update source csv header) = ⊤
 IsWithinLimits (request.Plan name plan) = IsTrue (is_plan plan)
 IsWithinLimits (request.Drop plan) = ⊤
+IsWithinLimits (request.Measure plan rows epsilon) =
+    (1 ≤ length rows) × (length rows ≤ max_rows) × (1 ≤ epsilon) × (epsilon ≤ max_epsilon)
 IsWithinLimits (request.Exact of rows) = (1 ≤ length rows) × (length rows ≤ max_rows)
+IsWithinLimits (request.Budget source) = ⊤

@@ -14,7 +14,7 @@ mod read;
 pub use csv_changes::{Added, CsvFault, CsvWhat, read_changes};
 pub use messages::{
     Bytes, FieldText, Memory, ReadFault, Refusal, Reply, Request, Rows, Target, Thing, Uses,
-    Weights,
+    Weights, Wides,
 };
 pub use read::{MAX_LINE, read_request};
 pub use reply_text::write_reply;

@@ -13,7 +13,9 @@ pub enum Op {
     Update,
     Plan,
     Drop,
+    Measure,
     Exact,
+    Budget,
 }
 
 /// The operation that the field `op` names.
@@ -41,8 +43,12 @@ fn op_named(name: &str) -> Option<Op>
         Some(Op::Plan)
     } else if name == "drop" {
         Some(Op::Drop)
+    } else if name == "measure" {
+        Some(Op::Measure)
     } else if name == "exact" {
         Some(Op::Exact)
+    } else if name == "budget" {
+        Some(Op::Budget)
     } else {
         None
     }
@@ -59,6 +65,8 @@ pub fn fields(op: Op) -> &'static [&'static str]
         Op::Update => &["op", "source", "csv", "header"],
         Op::Plan => &["op", "name", "plan"],
         Op::Drop => &["op", "plan"],
+        Op::Measure => &["op", "plan", "rows", "epsilon"],
         Op::Exact => &["op", "plan", "source", "rows"],
+        Op::Budget => &["op", "source"],
     }
 }

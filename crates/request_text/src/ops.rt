@@ -3,7 +3,7 @@
 ghost use Rattle.std.specs.Prelude.{◌≡◌, IfOk};
 ghost use Rattle.serde_json.specs.View.{view, members_view};
 ghost use Rattle.request_fields.specs.Gives.{Gives};
-ghost use Rattle.request_text.specs.Requests.{IsWithinLimits, drop_in, exact_in, plan_in, source_in, sum_in, target_named, update_in};
+ghost use Rattle.request_text.specs.Requests.{IsWithinLimits, budget_in, drop_in, exact_in, measure_in, plan_in, source_in, sum_in, target_named, update_in};
 
 use crate::op::{Op, fields};
 use crate::plans::plan;
@@ -15,6 +15,9 @@ use std::alloc::Global;
 
 /// The greatest budget, in millionths of epsilon.
 const MAX_BUDGET: u64 = 1_000_000_000_000_000;
+
+/// The greatest epsilon of a measurement, in millionths.
+const MAX_EPSILON: u64 = 1_000_000_000;
 
 /// The sum of weights.
 #[tactic(auto, unfolding(crate::specs::Requests::sum_in))]
@@ -107,6 +110,28 @@ pub fn drop_plan(
     Ok(Request::Drop { plan })
 }
 
+/// Rows to be measured in a plan's output.
+#[tactic(auto, unfolding(crate::specs::Requests::measure_in))]
+pub fn measure(
+    alloc: Global,
+    value: &Value,
+    members: &Map<String, Value>,
+) -> Result<Request, ReadFault>
+    ensures value { Gives result (measure_in (view value.now) (members_view members.now.entries)) }
+    ensures limits { IfOk result IsWithinLimits }
+{
+    let text = text(alloc, value, "plan")?;
+    let rows = rows(alloc, value)?;
+    let epsilon = whole(alloc, value, "epsilon", 1, MAX_EPSILON)?;
+    only_known(alloc, members, fields(Op::Measure))?;
+    let plan = named(alloc, "plan", text)?;
+    Ok(Request::Measure {
+        plan,
+        rows,
+        epsilon,
+    })
+}
+
 /// Rows to be looked up in a source or a plan.
 #[tactic(auto, unfolding(crate::specs::Requests::exact_in))]
 pub fn exact(
@@ -127,6 +152,22 @@ pub fn exact(
         of: target_named(thing, name),
         rows,
     })
+}
+
+/// A source whose budget is to be told.
+#[tactic(auto, unfolding(crate::specs::Requests::budget_in))]
+pub fn budget(
+    alloc: Global,
+    value: &Value,
+    members: &Map<String, Value>,
+) -> Result<Request, ReadFault>
+    ensures value { Gives result (budget_in (view value.now) (members_view members.now.entries)) }
+    ensures limits { IfOk result IsWithinLimits }
+{
+    let text = text(alloc, value, "source")?;
+    only_known(alloc, members, fields(Op::Budget))?;
+    let source = named(alloc, "source", text)?;
+    Ok(Request::Budget { source })
 }
 
 // The source or the plan of a name.

@@ -4,16 +4,16 @@ use Rattle.std.specs.Prelude.{All}
 use Rattle.std.specs.Vec.{with_items}
 use lib.ListN.{length-map}
 use Rattle.plan_model.specs.declared.source_types.SourceType.{SourceType}
-use Rattle.session_core.specs.Held.{HeldSources}
-use Rattle.session_core.specs.Named.{plan_name}
+use Rattle.session_data.specs.Held.{HeldSources}
+use Rattle.request_machine.specs.Named.{plan_name}
 use Rattle.session_core.specs.Parts.{AreKept, AreSettled, state_of}
-use Rattle.session_core.specs.Planned.{IsSettled, plan_state, plan_states}
-use Rattle.session_core.specs.Sound.{IsSoundPlan, IsSoundSource, Sound}
-use Rattle.session_core.specs.State.{PlanState, SourceState, State, family_of, types_of}
+use Rattle.session_data.specs.Planned.{IsSettled, plan_state, plan_states}
+use Rattle.request_machine.specs.Sound.{IsSoundPlan, IsSoundSource, Sound}
+use Rattle.request_machine.specs.State.{PlanState, SourceState, State, family_of, types_of}
 use Rattle.session_core.specs.declared.parts.Parts.{Parts}
-use Rattle.session_core.specs.declared.plans.Planned.{Planned}
+use Rattle.session_data.specs.declared.plans.Planned.{Planned}
 use Rattle.session_core.proofs.Kept.{AllHeld-settled, AllSound-held, Sound-turned}
-use Rattle.session_core.proofs.PlanSteps.{items-replaced}
+use Rattle.session_data.proofs.PlanSteps.{items-replaced}
 
 module _ (old : Parts) (s : HeldSources) (plans : List Planned) (kept : AreKept old) (states : plan_states plans ≡ plan_states old.plans.items) where
   abbrev after : Parts

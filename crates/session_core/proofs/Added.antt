@@ -1,7 +1,6 @@
 -- Weights that are added, case by case.
 use Rattle.std.proofs.Common.{◌≡◌, ℕ, List, refl, ap, ap₂, subst, sym, ◌∙◌, None, Some, Option, length, set, true, false, inl, inr}
-use Rattle.std.specs.Prelude.{All, cond, slice_get, Result}
-use Rattle.std.specs.declared.alloc.AllocError.{AllocError}
+use Rattle.std.specs.Prelude.{All, cond, slice_get}
 use Rattle.record_text.specs.KindLists.{kinds_of}
 use Rattle.datasets.specs.Dataset.{first_negative, first_weight_out_of_range}
 use Rattle.weighted_set.specs.Adding.{AreChangesOfAdding, EndsAllowed, StaysInRange}
@@ -11,22 +10,12 @@ use Rattle.weighted_set.specs.declared.weighted.Weighted.{Weighted}
 use Rattle.messages.specs.declared.refusal.Refusal.TheVariants as refusal
 use Rattle.messages.specs.declared.reply.Reply.{Reply}
 use Rattle.messages.specs.declared.reply.Reply.TheVariants as reply
-use Rattle.session_core.specs.Held.{HeldSources}
-use Rattle.session_core.specs.Machine.{Responds, added_at, below_zero, first_misfit, updated_at, with_source, with_weights}
-use Rattle.session_core.specs.Parts.{ArePending, AreSettled, Does, state_of}
-use Rattle.session_core.specs.State.{SourceState, State, family_of, types_of}
+use Rattle.session_data.specs.Held.{HeldSources}
+use Rattle.request_machine.specs.Updates.{added_at, below_zero, first_misfit, updated_at, with_source, with_weights}
+use Rattle.session_core.specs.Parts.{ArePending, AreSettled, state_of}
+use Rattle.request_machine.specs.State.{SourceState, State, family_of, types_of}
 use Rattle.session_core.specs.declared.parts.Parts.{Parts}
-use Rattle.session_core.proofs.Turned.{IsTurn-added, TurnsInto-added}
-
--- what is done with parts of the same state
-pub Does-same : (result : Result (Unit {0}) AllocError) (old' old : Parts) (outcome' outcome : State × Reply) (new : Parts) (before after : List ℕ)
-    → state_of old' ≡ state_of old → outcome' ≡ outcome → Does result old' outcome' new before after → Does result old outcome new before after
-Does-same result old' old outcome' outcome new before after same is h = record {
-  settled = h.settled;
-  responds =
-      subst (λ (o : State × Reply). Responds result (state_of old) o (state_of new) before after) is
-      (subst (λ (s : State). Responds result s outcome' (state_of new) before after) same h.responds);
-}
+use Rattle.session_data.proofs.Turned.{IsTurn-added, TurnsInto-added}
 
 -- ---- sources that are held
 

@@ -1,18 +1,68 @@
--- One line's answer.
-use Rattle.std.proofs.Common.{ℕ, List, [], refl, Ok, Err, Option, Result}
-use Rattle.std.specs.Prelude.{ℤ}
+-- One line's answer, from what it comes to and how that ends.
+use Rattle.std.proofs.Common.{◌≡◌, ◌≤◌, ℕ, List, [], refl, ap, ap₂, sym, subst, ◌∙◌, arith, Ok, Err, Option, Result}
+use Rattle.std.specs.Prelude.{ℤ, OnErr, OnOk}
 use Rattle.std.specs.declared.alloc.AllocError.{AllocError}
+use Rattle.io_edge.specs.Causes.{Rose}
 use Rattle.io_edge.proofs.KnownLemmas.{Gains-none}
 use Rattle.request_text.specs.Requests.{request_on}
-use Rattle.session_core.specs.State.{State}
-use Rattle.session_core.specs.Machine.{LineAnswered, Responds, answered, step}
+use Rattle.reply_text.specs.Replies.{reply_line}
+use Rattle.messages.specs.declared.reply.Reply.{Reply}
+use Rattle.request_machine.specs.Machine.{GaveUp, LineAnswered, Nothing, Stepped, answered, noise_line, stage, step}
+use Rattle.request_machine.specs.Stages.{MayTake, Stage, Told, finished, told_by}
+use Rattle.request_machine.specs.State.{State}
+use Rattle.request_machine.proofs.Quiet.{only_short_noise}
+use Rattle.session_core.specs.Draws.{Responds, numbers}
+use Rattle.session_core.specs.Outcomes.{ComesTo, Does, state_after}
+use Rattle.session_core.specs.Parts.{AreSettled, state_of}
+use Rattle.session_core.specs.declared.outcome.Effect.TheVariants as effect
+use Rattle.session_core.specs.declared.outcome.Outcome.{Outcome}
+use Rattle.session_core.specs.declared.parts.Parts.{Parts}
+use Rattle.session_core.proofs.ComesTo.{Does-told}
 
--- a call that takes no noise and responds to what the line denotes
-pub LineAnswered-responds : (told : Option (List (ℕ × ℤ))) (state : State) (line : List ℕ) (result : Result (Unit {0}) AllocError) (reply : List ℕ) (new : State)
-    → Responds result state (answered state (request_on line)) new [] reply
-    → LineAnswered told told state line result reply new
-unfolding step
-LineAnswered-responds told state line (Ok done) reply new h =
-    record { given = []; drawn = Gains-none told; answer = record { none_given = refl; stepped = rw (h.0, h.1) refl } }
-LineAnswered-responds told state line (Err e) reply new h =
-    record { given = []; drawn = Gains-none told; answer = record { none_given = refl; unchanged = h.0 } }
+-- a call that takes no noise, of a request that wants none
+pub Responds-told : (told : Option (List (ℕ × ℤ))) (faults : ℕ) (result : Result Outcome AllocError) (old new : Parts) (target : State × Reply)
+    → Does result old new target → Responds told told faults faults result old new (told_by target)
+Responds-told told faults (Ok outcome) old new target h =
+    record { given = []; drawn = Gains-none told; may_take = refl; does = h; later = omega arith; failed = λ lacks. absurd lacks }
+Responds-told told faults (Err e) old new target h =
+    record { given = []; drawn = Gains-none told; may_take = refl; does = h; later = omega arith; failed = tt }
+
+-- the same of one that comes to this answer
+pub Responds-answer : (told : Option (List (ℕ × ℤ))) (faults : ℕ) (parts : Parts) (outcome : Outcome) (answer : Reply) (s : Stage) → AreSettled parts
+    → outcome.reply ≡ answer → outcome.effect ≡ effect.Nothing → s ≡ Told (state_of parts) answer → Responds told told faults faults (Ok outcome) parts parts s
+Responds-answer told faults parts outcome answer s settled is nothing same =
+    subst (Responds told told faults faults (Ok outcome) parts parts) (sym same)
+    (Responds-told told faults (Ok outcome) parts parts (state_of parts, answer) (Does-told parts outcome answer (state_of parts, answer) settled is nothing refl))
+
+-- what the line comes to, as the step has it
+module _ (before after : Option (List (ℕ × ℤ))) (faults_before faults_now : ℕ) (old mid new : Parts) (line : List ℕ) where
+  -- no outcome, since there was no memory
+  pub LineAnswered-none : (e told : AllocError) → Responds before after faults_before faults_now (Err e) old new (answered (state_of old) (request_on line) Nothing)
+      → LineAnswered before after (state_of old) line (Err told) [] (state_of new)
+  unfolding stage
+  LineAnswered-none e told h = record { given = h.given; drawn = h.drawn; answer = record { may_take = h.may_take; unchanged = h.does.same } }
+
+  module _ (outcome : Outcome) (h : Responds before after faults_before faults_now (Ok outcome) old mid (answered (state_of old) (request_on line) Nothing)) (reply : List ℕ) where
+    -- the outcome is taken, and its reply is written
+    pub stepped_closed : state_of new ≡ state_after mid outcome.effect → reply ≡ reply_line outcome.reply
+        → (state_of new, reply) ≡ step (state_of old) line (numbers h.given) Nothing
+    unfolding step stage
+    stepped_closed state told =
+        ap₂ (λ (s : State) (r : List ℕ). let both : State × List ℕ = (s, r) in both) state told
+        ∙ ap (λ (o : State × Reply). let both : State × List ℕ = (o.0, reply_line o.1) in both) h.does.done.leads
+
+    pub LineAnswered-closed : (result : Result (Unit {0}) AllocError) → OnOk result (state_of new ≡ state_after mid outcome.effect) → OnOk result (reply ≡ reply_line outcome.reply)
+        → OnErr result (state_of new ≡ state_of mid) → LineAnswered before after (state_of old) line result reply (state_of new)
+    unfolding stage
+    LineAnswered-closed (Ok done) state told same =
+        record { given = h.given; drawn = h.drawn; answer = record { may_take = h.may_take; stepped = stepped_closed state told } }
+    LineAnswered-closed (Err e) state told same =
+        record { given = h.given; drawn = h.drawn; answer = record { may_take = h.may_take; unchanged = same ∙ h.does.same } }
+
+    -- a refusal for noise comes only where the noise failed
+    pub noise_closed : (result : Result (Unit {0}) AllocError) → OnOk result (state_of new ≡ state_after mid outcome.effect) → OnOk result (reply ≡ reply_line outcome.reply)
+        → OnOk result (reply ≡ noise_line → Rose faults_before faults_now)
+    unfolding stage
+    noise_closed (Ok done) state told =
+        λ is. h.failed (only_short_noise (state_of old) line (numbers h.given) Nothing (sym (ap (λ (both : State × List ℕ). both.1) (stepped_closed state told)) ∙ is))
+    noise_closed (Err e) state told = tt

@@ -1,6 +1,9 @@
 -- Parts with one source more.
-use Rattle.std.proofs.Common.{◌≡◌, ◌<◌, ℕ, List, [], ◌∷◌, ◌++◌, false, refl, sym, ap, subst, ◌∙◌, arith, length, map, None, Ok, ◌||◌, length-append}
-use Rattle.std.specs.Prelude.{All}
+use Rattle.std.proofs.Common.{◌≡◌, ◌<◌, ℕ, List, [], ◌∷◌, ◌++◌, false, refl, sym, ap, subst, ◌∙◌, arith, length, map, None, ◌||◌, length-append}
+use Rattle.std.specs.Prelude.{All, ◌≤◌, Result, Ok, Err, OnErr, OnOk}
+use Rattle.std.specs.declared.alloc.AllocError.{AllocError}
+use Rattle.plan_model.specs.declared.source_types.SourceType.{SourceType}
+use Rattle.session_data.proofs.SourceLemmas.{new_is_sound}
 use Rattle.std.specs.List.{IsDistinct, list_any}
 use Rattle.std.proofs.lemmas.List.{map-append}
 use Rattle.std.proofs.lemmas.List.Elements.{All-push}
@@ -9,20 +12,15 @@ use Rattle.std.specs.Cmp.Lexicographic.{lists_equiv}
 use Rattle.std.proofs.lemmas.Cmp.{nat_eq_equiv}
 use Rattle.record_text.specs.Names.{name_eq}
 use Rattle.plan_model.specs.Sources.{has_name}
-use Rattle.reply_text.specs.Replies.{reply_line}
-use Rattle.messages.specs.declared.reply.Reply.{Reply}
-use Rattle.messages.specs.declared.reply.Reply.TheVariants as reply
-use Rattle.session_core.specs.Held.{HeldSources}
-use Rattle.session_core.specs.Machine.{declared}
-use Rattle.session_core.specs.Named.{place_named, source_name}
-use Rattle.session_core.specs.Parts.{AreSettled, Does, state_of}
-use Rattle.session_core.specs.Sound.{IsSoundSource}
-use Rattle.session_core.specs.State.{SourceState, State, types_of}
+use Rattle.session_data.specs.Held.{HeldSources}
+use Rattle.request_machine.specs.Named.{place_named, source_name}
+use Rattle.session_core.specs.Parts.{AreSettled}
+use Rattle.request_machine.specs.Sound.{IsSoundSource}
+use Rattle.request_machine.specs.State.{SourceState, new_of_type, types_of}
 use Rattle.session_core.specs.declared.parts.Parts.{Parts}
 use Rattle.session_core.proofs.Kept.{AllHeld-settled, AllSettled-declared, AllSound-held}
 use Rattle.session_core.proofs.Added.{held_is}
-use Rattle.session_core.proofs.Named.{name_is_new}
-use Rattle.session_core.proofs.Outcomes.{declared_new}
+use Rattle.request_machine.proofs.Named.{name_is_new}
 
 -- whether a type has a name is whether its source has
 has_name-types : (name : List ℕ) (sources : List SourceState) → has_name (types_of sources) name ≡ list_any (name_eq name) (map source_name sources)
@@ -70,18 +68,22 @@ module _ (old : Parts) (new : SourceState) (settled : AreSettled old) (few : len
         none_pending = refl;
       }
 
--- the declaration of a source of a new name, where there is room
-pub Does-declared : (old : Parts) (s : HeldSources) (new : SourceState) (before after : List ℕ) → AreSettled old → length old.sources.committed < 16
+-- the source is appended
+pub AreSettled-pushed : (old : Parts) (s : HeldSources) (new : SourceState) → AreSettled old → length old.sources.committed < 16
     → place_named source_name new.name old.sources.committed ≡ None → IsSoundSource new
-    → s.committed ≡ old.sources.committed ++ new ∷ [] → s.pending ≡ old.sources.pending ++ new ∷ [] → after ≡ before ++ reply_line reply.Done
-    → Does (Ok tt) old (declared (state_of old) new) (record old { sources = s }) before after
-Does-declared old s new before after settled few none sound_new committed pending told =
+    → s.committed ≡ old.sources.committed ++ new ∷ [] → s.pending ≡ old.sources.pending ++ new ∷ []
+    → AreSettled (record old { sources = s })
+AreSettled-pushed old s new settled few none sound_new committed pending =
     let distinct = distinct-declared old.sources.committed new settled.kept.sound.distinct none in
-    let is = declared_new (state_of old) new none few in
     let same = held_is s (old.sources.committed ++ new ∷ []) (old.sources.committed ++ new ∷ []) committed (pending ∙ ap (λ (sources : List SourceState). sources ++ new ∷ []) settled.none_pending) in
-    let there = declared_parts old new settled few distinct sound_new in
-    let whole : Does (Ok tt) old (declared (state_of old) new) (record old { sources = there }) before after = record {
-      settled = AreSettled-declared old new settled few distinct sound_new;
-      responds = (sym (ap (λ (o : State × Reply). o.0) is), told ∙ sym (ap (λ (o : State × Reply). before ++ reply_line o.1) is));
-    } in
-    subst (λ (u : HeldSources). Does (Ok tt) old (declared (state_of old) new) (record old { sources = u }) before after) (sym same) whole
+    subst (λ (u : HeldSources). AreSettled (record old { sources = u })) (sym same) (AreSettled-declared old new settled few distinct sound_new)
+
+-- the source is appended, or there is no memory for it and nothing has changed
+pub AreSettled-declares : (result : Result (Unit {0}) AllocError) (old : Parts) (s : HeldSources) (t : SourceType) (total : ℕ) → AreSettled old → length old.sources.committed < 16
+    → place_named source_name t.name old.sources.committed ≡ None → total ≤ 1000000000000000
+    → OnOk result (s.committed ≡ old.sources.committed ++ new_of_type t total ∷ []) → OnOk result (s.pending ≡ old.sources.pending ++ new_of_type t total ∷ [])
+    → OnErr result (s ≡ old.sources) → AreSettled (record old { sources = s })
+AreSettled-declares (Ok done) old s t total settled few none within committed pending same =
+    AreSettled-pushed old s (new_of_type t total) settled few none (new_is_sound t.name t.kinds t.signed total within) committed pending
+AreSettled-declares (Err e) old s t total settled few none within committed pending same =
+    subst (λ (u : HeldSources). AreSettled (record old { sources = u })) (sym same) settled

@@ -1,5 +1,5 @@
 -- Parts with one plan less.
-use Rattle.std.proofs.Common.{◌≡◌, ◌<◌, ◌≤◌, ◌+◌, ◌++◌, ℕ, suc, List, Bool, false, Some, sym, ap, ap₂, subst, ◌∙◌, arith, length, map, take, drop, Ok, vec_len, vec_capacity}
+use Rattle.std.proofs.Common.{◌≡◌, ◌<◌, ◌≤◌, ◌+◌, ◌++◌, ℕ, suc, List, Bool, false, sym, ap, ap₂, subst, ◌∙◌, arith, length, map, take, drop, vec_len, vec_capacity}
 use Rattle.std.specs.Prelude.{All}
 use Rattle.std.specs.List.{IsDistinct, remove}
 use Rattle.std.proofs.lemmas.List.{drop-map, map-append, take-map}
@@ -10,18 +10,13 @@ use Rattle.std.proofs.lemmas.Map.Keys.{IsDistinct-from_apart, apart_from_distinc
 use lib.ListN.{length-map}
 use Rattle.indexmap.specs.IndexSet.{spare}
 use Rattle.record_text.specs.Names.{name_eq}
-use Rattle.reply_text.specs.Replies.{reply_line}
-use Rattle.messages.specs.declared.reply.Reply.{Reply}
-use Rattle.messages.specs.declared.reply.Reply.TheVariants as reply
-use Rattle.session_core.specs.Held.{HeldSources}
-use Rattle.session_core.specs.Machine.{dropped}
-use Rattle.session_core.specs.Named.{place_named, plan_name}
-use Rattle.session_core.specs.Parts.{AreSettled, Does, state_of}
-use Rattle.session_core.specs.Planned.{IsSettled, plan_state, plan_states}
-use Rattle.session_core.specs.Sound.{IsSoundPlan, Sound}
-use Rattle.session_core.specs.State.{State, family_of, types_of}
+use Rattle.session_data.specs.Held.{HeldSources}
+use Rattle.request_machine.specs.Named.{plan_name}
+use Rattle.session_core.specs.Parts.{AreSettled, state_of}
+use Rattle.session_data.specs.Planned.{IsSettled, plan_state, plan_states}
+use Rattle.request_machine.specs.Sound.{IsSoundPlan, Sound}
+use Rattle.request_machine.specs.State.{State, family_of, types_of}
 use Rattle.session_core.specs.declared.parts.Parts.{Parts}
-use Rattle.session_core.proofs.Outcomes.{dropped_known, place_within}
 
 -- ---- lists with one element less
 
@@ -81,19 +76,3 @@ module _ (old new : Parts) (settled : AreSettled old) (open_ : new.curator ≡ o
             (All-remove (IsSettled (types_of old.sources.committed) (family_of old.sources.committed)) old.plans.items i settled.plans));
         none_pending = subst (λ (s : HeldSources). s.pending ≡ s.committed) (sym sources) settled.none_pending;
       }
-
--- the plan of a name is taken out
-pub Does-dropped : (old new : Parts) (name : List ℕ) (i : ℕ) (before after : List ℕ) → AreSettled old → new.curator ≡ old.curator → new.sources ≡ old.sources
-    → place_named plan_name name (plan_states old.plans.items) ≡ Some i → new.plans.items ≡ remove old.plans.items i → new.plan_names.keys ≡ remove old.plan_names.keys i
-    → 32 ≤ spare new.plan_names + vec_len new.plans → 32 ≤ vec_capacity new.plans → after ≡ before ++ reply_line reply.Done
-    → Does (Ok tt) old (dropped (state_of old) name) new before after
-Does-dropped old new name i before after settled open_ sources here items names names_room plans_room told =
-    let lt = subst (λ n. i < n) (length-map old.plans.items plan_state) (place_within plan_name name (plan_states old.plans.items) i here) in
-    let is = dropped_known (state_of old) name i here in
-    record {
-      settled = AreSettled-dropped old new settled open_ sources i items lt names names_room plans_room;
-      responds = (
-        state_is old new settled open_ sources i items ∙ sym (ap (λ (o : State × Reply). o.0) is),
-        told ∙ sym (ap (λ (o : State × Reply). before ++ reply_line o.1) is),
-      );
-    }

@@ -3,13 +3,13 @@ use Rattle.std.proofs.Common.{◌≡◌, ℕ, List, ap, subst, sym, ◌∙◌, N
 use Rattle.std.specs.Prelude.{All}
 use Rattle.plan_model.specs.declared.source_types.SourceType.{SourceType}
 use Rattle.weighted_set.specs.declared.weighted.Change.{Change}
-use Rattle.session_core.specs.Machine.{first_misfit}
+use Rattle.request_machine.specs.Updates.{first_misfit}
 use Rattle.session_core.specs.Parts.{ArePending}
-use Rattle.session_core.specs.Planned.{IsPrepared, IsSettled, MayTurnAll, plan_states}
-use Rattle.session_core.specs.State.{family_of, types_of}
+use Rattle.session_data.specs.Planned.{IsPrepared, IsSettled, MayTurnAll, plan_states}
+use Rattle.request_machine.specs.State.{family_of, types_of}
 use Rattle.session_core.specs.declared.parts.Parts.{Parts}
-use Rattle.session_core.specs.declared.plans.Planned.{Planned}
-use Rattle.session_core.proofs.PlanLoops.{first_misfit-none}
+use Rattle.session_data.specs.declared.plans.Planned.{Planned}
+use Rattle.session_data.proofs.PlanLoops.{first_misfit-none}
 
 -- the plans may be turned by the changes
 pub may_turn : (parts : Parts) (at : ℕ) (changes : List Change) (plans : List Planned) → ArePending parts at changes → plans ≡ parts.plans.items

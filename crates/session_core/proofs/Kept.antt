@@ -12,15 +12,16 @@ use Rattle.plan_model.specs.Types.{Keeps}
 use Rattle.plan_model.specs.declared.source_types.SourceType.{SourceType}
 use Rattle.weighted_set.specs.Held.{AllInRange}
 use Rattle.plan_model.specs.Limits.{is_plan}
-use Rattle.session_core.specs.Flow.{StandsFor}
-use Rattle.session_core.specs.Named.{source_name}
-use Rattle.session_core.specs.Planned.{Holds, IsSettled, plan_state, plan_states}
-use Rattle.session_core.specs.Sound.{IsSoundPlan, IsSoundSource, Sound}
-use Rattle.session_core.specs.State.{SourceState, State, family_of, type_of, types_of}
-use Rattle.session_core.specs.declared.plans.Planned.{Planned}
+use Rattle.session_data.specs.Flow.{StandsFor}
+use Rattle.request_machine.specs.Named.{source_name}
+use Rattle.session_data.specs.Planned.{Holds, IsPrepared, IsSettled, plan_state, plan_states}
+use Rattle.request_machine.specs.Sound.{IsSoundPlan, IsSoundSource, Sound}
+use Rattle.request_machine.specs.State.{SourceState, State, family_of, type_of, types_of}
+use Rattle.session_data.specs.declared.plans.Planned.{Planned}
 use Rattle.plan_model.proofs.AcceptedLater.{Accepts-extended, columns-extended, known-accepted}
 use Rattle.plan_model.proofs.Extended.{misfit-extended}
-use Rattle.session_core.proofs.Typed.{AllInRange-sound, Keeps-sound}
+use Rattle.session_data.proofs.UsedLemmas.{uses_of-more}
+use Rattle.session_data.proofs.Typed.{AllInRange-sound, Keeps-sound}
 
 -- ---- one source more
 
@@ -41,6 +42,7 @@ module _ (types : List SourceType) (t : SourceType) (F : Family) (A : Dataset) (
           first = take-append-le n types (t ∷ []) few ∙ h.holds.first;
           stands = subst (StandsFor planned.graph) (sym (take-append-le n F (A ∷ []) (omega arith))) h.holds.stands;
           cols = h.holds.cols ∙ sym (ap (last_or []) (columns-extended types t planned.plan known));
+          uses = h.holds.uses ∙ sym (uses_of-more types t planned.plan h.holds.accepted);
         };
         idle = h.idle;
       }
@@ -74,6 +76,9 @@ AllSound-held sources plans all = All-map (IsSoundPlan sources) plan_state plans
 
 pub AllHeld-settled : (types : List SourceType) (F : Family) (plans : List Planned) → All (IsSettled types F) plans → All (Holds types F) plans
 AllHeld-settled types F plans all = All-weaker (IsSettled types F) (Holds types F) (λ planned h. h.holds) plans all
+
+pub AllHeld-prepared : (types : List SourceType) (F G : Family) (plans : List Planned) → All (IsPrepared types F G) plans → All (Holds types F) plans
+AllHeld-prepared types F G plans all = All-weaker (IsPrepared types F G) (Holds types F) (λ planned h. h.holds) plans all
 
 names_by_types : (sources : List SourceState) → map source_name sources ≡ map (λ (t : SourceType). t.name) (types_of sources)
 names_by_types [] = refl

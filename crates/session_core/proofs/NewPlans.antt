@@ -4,7 +4,8 @@ use Rattle.std.specs.Prelude.{All, slice_get}
 use Rattle.std.specs.List.{IsDistinct, list_any, range_with_len}
 use Rattle.std.specs.Cmp.Lexicographic.{lists_equiv}
 use Rattle.std.proofs.lemmas.Cmp.{nat_eq_equiv}
-use Rattle.std.proofs.lemmas.List.{map-append, take_all}
+use Rattle.std.proofs.lemmas.List.{length-take-le, map-append, take_all, take_more}
+use Rattle.std.proofs.lemmas.Option.{get_or_from_slice_get, slice_get_within}
 use Rattle.std.proofs.lemmas.List.FromFn.{length-range_with_len}
 use Rattle.std.proofs.lemmas.List.Elements.{All-push, filter_more}
 use Rattle.std.proofs.lemmas.Map.Keys.{IsDistinct-push}
@@ -12,82 +13,61 @@ use lib.ListN.{length-map}
 use Rattle.indexmap.specs.IndexSet.{insert_key, spare}
 use Rattle.record_text.specs.Names.{name_eq}
 use Rattle.record_text.specs.declared.kinds.Kind.{Kind}
+use Rattle.budget_book.specs.declared.ask.Ask.{Ask}
 use Rattle.plan_checker.specs.Checked.{CheckedPlan, IsChecked}
 use Rattle.plan_model.specs.Acceptance.{Accepts, Fault, plan_fault_of}
 use Rattle.plan_model.specs.Uses.{uses}
 use Rattle.plan_model.specs.declared.source_types.SourceType.{SourceType}
 use Rattle.plan_model.specs.declared.step.Step.{Step}
-use Rattle.reply_text.specs.Replies.{reply_line}
 use Rattle.messages.specs.declared.refusal.Refusal.TheVariants as refusal
 use Rattle.messages.specs.declared.reply.Reply.{Reply}
 use Rattle.messages.specs.declared.reply.Reply.TheVariants as reply
-use Rattle.session_core.specs.Held.{HeldSources}
-use Rattle.session_core.specs.Machine.{columns_of, counts_of, misfit_on, planned, planned_at, uses_named}
-use Rattle.session_core.specs.Named.{plan_name, source_name}
-use Rattle.session_core.specs.Parts.{AreSettled, Does, IsNewPlan, state_of}
-use Rattle.session_core.specs.Planned.{IsSettled, plan_state, plan_states}
-use Rattle.session_core.specs.Sound.{Sound}
-use Rattle.session_core.specs.State.{PlanState, SourceState, State, family_of, type_of, types_of}
+use Rattle.session_data.specs.Held.{HeldSources}
+use Rattle.request_machine.specs.Charges.{ask_of, asks_from, by_name}
+use Rattle.request_machine.specs.Declarations.{misfit_on, planned, planned_at, planned_reply}
+use Rattle.request_machine.specs.Named.{plan_name, source_name}
+use Rattle.session_core.specs.Parts.{AreSettled, IsNewPlan, state_of}
+use Rattle.session_data.specs.Planned.{IsSettled, plan_state, plan_states}
+use Rattle.request_machine.specs.Sound.{Sound}
+use Rattle.session_data.proofs.UsedLemmas.{asks_from-more}
+use Rattle.request_machine.specs.State.{PlanState, SourceState, State, family_of, type_of, types_of}
 use Rattle.session_core.specs.declared.parts.Parts.{Parts}
-use Rattle.session_core.specs.declared.plans.Planned.{Planned}
+use Rattle.session_data.specs.declared.plans.Planned.{Planned}
 use Rattle.session_core.proofs.Kept.{AllHeld-settled, AllSound-held}
-use Rattle.session_core.proofs.Named.{name_is_new}
-use Rattle.session_core.proofs.Outcomes.{planned_new}
+use Rattle.request_machine.proofs.Named.{name_is_new}
+use Rattle.request_machine.proofs.Outcomes.{planned_new}
 
 -- ---- the sources that a plan uses
 
--- those before a place
-abbrev pub used_before : List SourceState → List ℕ → ℕ → List (List ℕ × ℕ)
-used_before sources counts at = filter (λ used. nat_lt 0 used.1) (take at (zip (map source_name sources) counts))
-
--- the source at a place with its count
-used_here : (sources : List SourceState) (counts : List ℕ) (at : ℕ) (t : SourceType) (n : ℕ) → slice_get (types_of sources) at ≡ Some t → slice_get counts at ≡ Some n
-    → (at < length (zip (map source_name sources) counts)) × (get_or (zip (map source_name sources) counts) at (t.name, n) ≡ (t.name, n))
-used_here [] counts at t n e f = cc
-used_here (source ∷ sources) [] at t n e f = cc
-used_here (source ∷ sources) (m ∷ counts) zero t n e f =
-    let same : type_of source ≡ t = cc in
-    let count : m ≡ n = cc in
-    (omega arith, ap₂ (λ (name : List ℕ) (k : ℕ). (name, k)) (ap (λ (u : SourceType). u.name) same) count)
-used_here (source ∷ sources) (m ∷ counts) (suc at) t n e f = let h = used_here sources counts at t n e f in (omega (arith, h.0), h.1)
+next_count : (counts : List ℕ) (at n : ℕ) → slice_get counts at ≡ Some n
+    → asks_from 0 (take (at + 1) counts) ≡ asks_from 0 (take at counts) ++ cond (nat_lt 0 n) (ask_of at n ∷ []) []
+next_count counts at n here =
+    let lt = slice_get_within counts at n here in
+    let is = get_or_from_slice_get counts at n n here in
+    let size = length-take-le at counts (omega (arith, lt)) in
+    let place : 0 + length (take at counts) ≡ at = omega (arith, size) in
+    ap (asks_from 0) (take_more counts at n lt ∙ ap (λ k. take at counts ++ k ∷ []) is)
+    ∙ asks_from-more 0 (take at counts) n
+    ∙ ap (λ source. asks_from 0 (take at counts) ++ cond (nat_lt 0 n) (ask_of source n ∷ []) []) place
 
 not_below : (n : ℕ) → n ≤ 0 → nat_lt 0 n ≡ false
 not_below n none = grind (arith, rules)
 
--- one source more
-used_before-more : (sources : List SourceState) (counts : List ℕ) (at : ℕ) (t : SourceType) (n : ℕ) → slice_get (types_of sources) at ≡ Some t → slice_get counts at ≡ Some n
-    → used_before sources counts (at + 1) ≡ used_before sources counts at ++ cond (nat_lt 0 n) ((t.name, n) ∷ []) []
-used_before-more sources counts at t n e f =
-    let h = used_here sources counts at t n e f in
-    filter_more (λ used. nat_lt 0 used.1) (zip (map source_name sources) counts) at (t.name, n) h.0
-    ∙ ap (λ (one : List ℕ × ℕ). used_before sources counts at ++ cond (nat_lt 0 one.1) (one ∷ []) []) h.1
+pub used-counted : (counts : List ℕ) (at n : ℕ) → slice_get counts at ≡ Some n → 0 < n
+    → asks_from 0 (take (at + 1) counts) ≡ asks_from 0 (take at counts) ++ ask_of at n ∷ []
+used-counted counts at n here some =
+    next_count counts at n here
+    ∙ ap (λ (b : Bool). asks_from 0 (take at counts) ++ cond b (ask_of at n ∷ []) []) (lt-ltb 0 n some)
 
-pub used_before-counted : (sources : List SourceState) (counts : List ℕ) (at : ℕ) (t : SourceType) (n : ℕ) → slice_get (types_of sources) at ≡ Some t → slice_get counts at ≡ Some n → 0 < n
-    → used_before sources counts (at + 1) ≡ used_before sources counts at ++ (t.name, n) ∷ []
-used_before-counted sources counts at t n e f some =
-    used_before-more sources counts at t n e f ∙ ap (λ (b : Bool). used_before sources counts at ++ cond b ((t.name, n) ∷ []) []) (lt-ltb 0 n some)
-
-typed_somewhere : (sources : List SourceState) (at : ℕ) → at < length sources → (t : SourceType) × (slice_get (types_of sources) at ≡ Some t)
-typed_somewhere [] at lt = absurd (omega (arith, lt))
-typed_somewhere (source ∷ sources) zero lt = (type_of source, refl)
-typed_somewhere (source ∷ sources) (suc at) lt = typed_somewhere sources at (omega (arith, lt))
-
-pub used_before-unused : (sources : List SourceState) (counts : List ℕ) (at : ℕ) (n : ℕ) → at < length sources → slice_get counts at ≡ Some n → n ≤ 0
-    → used_before sources counts (at + 1) ≡ used_before sources counts at
-used_before-unused sources counts at n lt f none =
-    let typed = typed_somewhere sources at lt in
-    used_before-more sources counts at typed.0 n typed.1 f ∙ ap (λ (b : Bool). used_before sources counts at ++ cond b ((typed.0.name, n) ∷ []) []) (not_below n none)
-    ∙ append-nil (used_before sources counts at)
-
-zip_within : (sources : List SourceState) (counts : List ℕ) → length (zip (map source_name sources) counts) ≤ length sources
-zip_within [] counts = omega arith
-zip_within (source ∷ sources) [] = omega arith
-zip_within (source ∷ sources) (n ∷ counts) = let h = zip_within sources counts in omega (arith, h)
+pub used-unused : (counts : List ℕ) (at n : ℕ) → slice_get counts at ≡ Some n → n ≤ 0 → asks_from 0 (take (at + 1) counts) ≡ asks_from 0 (take at counts)
+used-unused counts at n here none =
+    next_count counts at n here
+    ∙ ap (λ (b : Bool). asks_from 0 (take at counts) ++ cond b (ask_of at n ∷ []) []) (not_below n none)
+    ∙ append-nil (asks_from 0 (take at counts))
 
 -- all sources
-pub used_before-all : (sources : List SourceState) (counts : List ℕ) (at : ℕ) → length sources ≤ at → used_before sources counts at ≡ uses_named (map source_name sources) counts
-used_before-all sources counts at end =
-    ap (filter (λ used. nat_lt 0 used.1)) (take_all at (zip (map source_name sources) counts) (omega (arith, zip_within sources counts, end)))
+pub used-all : (counts : List ℕ) (at : ℕ) → length counts ≤ at → asks_from 0 (take at counts) ≡ asks_from 0 counts
+used-all counts at end = ap (asks_from 0) (take_all at counts end)
 
 -- ---- plans that are declared
 
@@ -105,10 +85,7 @@ planned_unfit state new step fresh accepted unfit =
 
 -- an accepted plan that fits the sources goes last
 pub planned_fit : (state : State) (new : PlanState) → IsNewPlan state new.name → Accepts new.plan (types_of state.sources) → misfit_on state.sources new.plan ≡ None
-    → planned state new ≡ (
-      record state { plans = state.plans ++ new ∷ [] },
-      reply.Planned (columns_of state.sources new.plan) (uses_named (map source_name state.sources) (counts_of state.sources new.plan)),
-    )
+    → planned state new ≡ (record state { plans = state.plans ++ new ∷ [] }, planned_reply state.sources new.plan)
 planned_fit state new fresh accepted fits =
     planned_new state new fresh.nowhere fresh.few ∙ ap₂ (λ (o : Option Fault) (out : Option ℕ). planned_at o out state new) accepted fits
 
@@ -120,10 +97,10 @@ length-checked sources plan checked h =
 
 -- what is told of a checked plan
 pub planned_told : (state : State) (plan : List Step) (checked : CheckedPlan) (cols : List Kind) (used : List (List ℕ × ℕ)) → IsChecked plan (types_of state.sources) checked
-    → cols ≡ checked.columns → used ≡ uses_named (map source_name state.sources) checked.uses
-    → reply.Planned cols used ≡ reply.Planned (columns_of state.sources plan) (uses_named (map source_name state.sources) (counts_of state.sources plan))
+    → cols ≡ checked.columns → used ≡ by_name state.sources (asks_from 0 checked.uses)
+    → reply.Planned cols used ≡ planned_reply state.sources plan
 planned_told state plan checked cols used h cols_are used_are =
-    ap₂ reply.Planned (cols_are ∙ ap (λ (c : CheckedPlan). c.columns) h.1) (used_are ∙ ap (λ (c : CheckedPlan). uses_named (map source_name state.sources) c.uses) h.1)
+    ap₂ reply.Planned (cols_are ∙ ap (λ (c : CheckedPlan). c.columns) h.1) (used_are ∙ ap (λ (c : CheckedPlan). by_name state.sources (asks_from 0 c.uses)) h.1)
 
 -- a plan goes last, with its name
 pub record Grown (old new : Parts) (added : Planned) : Type 0 where
@@ -196,18 +173,3 @@ module _ (old new : Parts) (added : Planned) (grown : Grown old new added) (sett
         (subst (All (IsSettled (types_of old.sources.committed) (family_of old.sources.committed))) (sym grown.plans) plans_hold);
     none_pending = subst (λ (sources : HeldSources). sources.pending ≡ sources.committed) (sym grown.sources) settled.none_pending;
   }
-
-  -- so the declaration of the plan is done
-  pub Does-grown : (checked : CheckedPlan) (cols : List Kind) (used : List (List ℕ × ℕ)) (before after : List ℕ)
-      → IsChecked added.plan (types_of old.sources.committed) checked → cols ≡ checked.columns → used ≡ uses_named (map source_name old.sources.committed) checked.uses
-      → after ≡ before ++ reply_line (reply.Planned cols used)
-      → Does (Ok tt) old (planned (state_of old) (plan_state added)) new before after
-  Does-grown checked cols used before after h cols_are used_are told =
-      let is = planned_fit (state_of old) (plan_state added) fresh h.0 holds.holds.fits in
-      record {
-        settled = AreSettled-grown;
-        responds = (
-          state_grown ∙ sym (ap (λ (o : State × Reply). o.0) is),
-          told ∙ ap (λ (r : Reply). before ++ reply_line r) (planned_told (state_of old) added.plan checked cols used h cols_are used_are ∙ sym (ap (λ (o : State × Reply). o.1) is)),
-        );
-      }

@@ -15,7 +15,7 @@ use Rattle.datasets.specs.Entries.{Row, has_row}
 use Rattle.datasets.proofs.Rows.{same_row-turned}
 use Rattle.messages.specs.declared.refusal.Refusal.{Refusal}
 use Rattle.messages.specs.declared.refusal.Refusal.TheVariants as refusal
-use Rattle.session_core.specs.Machine.{first_row_fault}
+use Rattle.request_machine.specs.LookUps.{first_row_fault}
 
 -- ---- tests
 -- what a row answers to whether it fits

@@ -1,12 +1,3 @@
-pub mod Limits
-pub mod State
-pub mod Named
-pub mod Sound
-pub mod Machine
-pub mod Laws
-pub mod Flow
-pub mod FlowFaults
-pub mod Held
-pub mod Planned
 pub mod Parts
-pub mod Work
+pub mod Outcomes
+pub mod Draws

@@ -1,18 +1,16 @@
 -- What a session keeps, and what a request does with it.
-use Rattle.std.specs.Prelude.{◌≡◌, ℕ, ◌+◌, ◌≤◌, ◌<◌, All, List, None, Result, length, map, vec_capacity, vec_len}
-use Rattle.std.specs.declared.alloc.AllocError.{AllocError}
+use Rattle.std.specs.Prelude.{◌≡◌, ℕ, ◌+◌, ◌≤◌, ◌<◌, All, List, None, length, map, vec_capacity, vec_len}
 use Rattle.indexmap.specs.IndexSet.{spare}
 use Rattle.plan_model.specs.Evaluation.{Family}
 use Rattle.plan_model.specs.declared.source_types.SourceType.{SourceType}
-use Rattle.messages.specs.declared.reply.Reply.{Reply}
 use Rattle.weighted_set.specs.declared.weighted.Change.{Change}
-use Rattle.session_core.specs.Flow.{TurnsInto}
-use Rattle.session_core.specs.Limits.{max_plans}
-use Rattle.session_core.specs.Machine.{Responds}
-use Rattle.session_core.specs.Named.{place_named, plan_name}
-use Rattle.session_core.specs.Planned.{Holds, IsPrepared, IsSettled, plan_states}
-use Rattle.session_core.specs.Sound.{IsSoundSource, Sound}
-use Rattle.session_core.specs.State.{SourceState, State, family_of, types_of}
+use Rattle.session_data.specs.Flow.{TurnsInto}
+use Rattle.session_data.specs.Held.{IsTurn}
+use Rattle.request_machine.specs.Limits.{max_plans}
+use Rattle.request_machine.specs.Named.{place_named, plan_name}
+use Rattle.session_data.specs.Planned.{Holds, IsPrepared, IsSettled, plan_states}
+use Rattle.request_machine.specs.Sound.{Sound}
+use Rattle.request_machine.specs.State.{SourceState, State, family_of, types_of}
 use Rattle.session_core.specs.declared.parts.Parts.{Parts}
 
 -- the state that parts stand for
@@ -48,11 +46,6 @@ pub record AreSettled (parts : Parts) : Type 0 where
   pub plans : All (IsSettled (types_in parts) (rows_in parts)) parts.plans.items
   pub none_pending : parts.sources.pending ≡ parts.sources.committed
 
--- what is pending in the sources, which are of the same types and sound with it
-pub record IsTurn (old new : List SourceState) : Type 0 where
-  pub types : types_of new ≡ types_of old
-  pub sound : All IsSoundSource new
-
 -- changes of one source are pending in the sources, and nothing is pending in the plans
 pub record ArePending (parts : Parts) (at : ℕ) (changes : List Change) : Type 0 where
   pub kept : AreKept parts
@@ -65,11 +58,6 @@ pub record ArePrepared (parts : Parts) : Type 0 where
   pub kept : AreKept parts
   pub plans : All (IsPrepared (types_in parts) (rows_in parts) (pending_rows_in parts)) parts.plans.items
   pub turn : IsTurn parts.sources.committed parts.sources.pending
-
--- the call did with settled parts what the outcome says and appended its reply, or it had no memory and did nothing
-pub record Does (result : Result (Unit {0}) AllocError) (old : Parts) (outcome : State × Reply) (new : Parts) (before after : List ℕ) : Type 0 where
-  pub settled : AreSettled new
-  pub responds : Responds result (state_of old) outcome (state_of new) before after
 
 -- no plan has the name, and there is room for one more
 pub record IsNewPlan (state : State) (name : List ℕ) : Type 0 where

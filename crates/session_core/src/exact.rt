@@ -2,7 +2,7 @@
 ghost use Rattle.std.specs.Prelude.{◌≡◌, ◌+◌, ◌*◌, ◌≤◌, [], IfOk, length, map};
 ghost use Rattle.datasets.specs.Dataset.{at};
 ghost use Rattle.messages.specs.declared.target.Target.TheVariants as target;
-ghost use Rattle.session_core.specs.Machine.{exact_reply, first_row_fault, row_refusal};
+ghost use Rattle.request_machine.specs.LookUps.{exact_reply, first_row_fault, row_refusal};
 ghost use Rattle.session_core.specs.Parts.{AreSettled, state_of};
 
 use crate::parts::Parts;
@@ -94,8 +94,8 @@ fn weights_in(alloc: Global, set: &HeldSet, rows: &[Row]) -> Result<Weights, Mem
     Ok(Weights::from_vec(weights))
 }
 
-// The first row that doesn't have these kinds or is one that came before.
-fn row_fault(kinds: Kinds, rows: &[Row]) -> Option<Refusal>
+/// The first row that doesn't have these kinds or is one that came before.
+pub fn row_fault(kinds: Kinds, rows: &[Row]) -> Option<Refusal>
     ensures { result ≡ first_row_fault kinds [] 0 rows.now }
 {
     for (at, row) in rows.iter().enumerate() {

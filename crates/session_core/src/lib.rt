@@ -1,17 +1,16 @@
-//! The request machine: a session answers one line at a time, and keeps sources between lines.
-//! Its step is defined in `specs/Machine.antt`; `Session::answer` is proved to be that step.
+//! The request machine at work: a session answers one line at a time, and keeps sources and plans between lines.
+//! `Session::answer` is proved to be the step that `request_machine` defines.
 #![tactic(auto)]
 
-mod budget;
 mod declare;
+mod effects;
 mod exact;
-mod laws;
+mod measure;
+mod outcome;
 mod parts;
-mod plans;
 mod session;
-mod sources;
 mod update;
 
-pub use laws::law_replies;
+pub use request_machine::{law_noise, law_replies};
 pub use request_text::{MAX_LINE, Memory};
 pub use session::Session;

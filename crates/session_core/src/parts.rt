@@ -1,19 +1,21 @@
 //! What a session keeps, and its answer to a line.
-ghost use Rattle.std.specs.Prelude.{◌≡◌, ◌+◌, ◌++◌, ◌≤◌, ℕ, IfOk, Ok, OnErr, OnOk, Some};
+ghost use Rattle.std.specs.Prelude.{◌≡◌, ◌+◌, ◌≤◌, ℕ, [], IfOk, Ok, OnErr, OnOk, Some};
 ghost use Rattle.request_text.specs.Requests.{IsWithinLimits, request_on};
-ghost use Rattle.reply_text.specs.Replies.{reply_line};
-ghost use Rattle.messages.specs.declared.reply.Reply.TheVariants as answer;
-ghost use Rattle.session_core.specs.Machine.{answered, performed, sum_reply};
-ghost use Rattle.session_core.specs.Parts.{AreSettled, Does, state_of};
-ghost use Rattle.session_core.specs.State.{start_state};
-ghost use Rattle.session_core.specs.Work.{step_bound};
+ghost use Rattle.request_machine.specs.Declarations.{sum_reply};
+ghost use Rattle.io_edge.specs.Causes.{Rose};
+ghost use Rattle.request_machine.specs.Machine.{LineAnswered, Nothing, answered, noise_line, performed};
+ghost use Rattle.request_machine.specs.State.{start_state};
+ghost use Rattle.request_machine.specs.Work.{step_bound};
+ghost use Rattle.session_core.specs.Draws.{Responds};
+ghost use Rattle.session_core.specs.Parts.{AreSettled, state_of};
 
-use crate::plans::Planned;
-use crate::sources::Sources;
+use crate::outcome::Outcome;
 use frac_core::Frac;
 use indexmap::IndexSet;
+use io_edge::Noise;
 use record_text::Name;
-use request_text::{Memory, ReadFault, Refusal, Reply, Request, read_request, write_reply};
+use request_text::{Memory, ReadFault, Refusal, Reply, Request, read_request};
+use session_data::{Planned, Sources};
 use std::alloc::Global;
 use std::sync::ledger::Ledger;
 use steps::Steps;
@@ -47,68 +49,88 @@ impl Parts {
         })
     }
 
-    /// Does what a line asks and appends the reply.
-    pub fn respond<L: Ledger>(
+    /// Leaves the line's reply in `reply`, which is emptied first, and does what the line asks. After `Memory`
+    /// `reply` is empty and nothing is done, but noise that was drawn stays drawn.
+    pub fn answer<N: Noise, L: Ledger>(
         &mut self,
         line: &[u8],
+        noise: &mut N,
         reply: &mut Vec<u8>,
         steps: &mut Steps<L>,
     ) -> Result<(), Memory>
         requires { AreSettled self.old }
-        ensures does { Does result self.old (answered (state_of self.old) (request_on line.now))
-            self.new reply.old.items reply.new.items }
+        ensures settled { AreSettled self.new }
+        ensures answered { LineAnswered (N.given noise.old) (N.given noise.new)
+            (state_of self.old) line.now result reply.new.items (state_of self.new) }
+        ensures emptied { OnErr result (reply.new.items ≡ []) }
+        ensures later { N.faults noise.old ≤ N.faults noise.new }
+        ensures noise { OnOk result
+            (reply.new.items ≡ noise_line → Rose (N.faults noise.old) (N.faults noise.new)) }
+        ensures work { (n : ℕ) → step_bound (request_on line.now) ≡ Some n → steps.new ≤ steps.old + n }
+    {
+        reply.clear();
+        let outcome = self.respond(line, noise, steps)?;
+        self.close(outcome, reply)
+    }
+
+    // What a line comes to.
+    fn respond<N: Noise, L: Ledger>(
+        &mut self,
+        line: &[u8],
+        noise: &mut N,
+        steps: &mut Steps<L>,
+    ) -> Result<Outcome, Memory>
+        requires { AreSettled self.old }
+        ensures responds { Responds (N.given noise.old) (N.given noise.new) (N.faults noise.old) (N.faults noise.new)
+            result self.old self.new (answered (state_of self.old) (request_on line.now) Nothing) }
         ensures work { (n : ℕ) → step_bound (request_on line.now) ≡ Some n → steps.new ≤ steps.old + n }
     {
         match read_request(self.alloc, line) {
-            Ok(request) => self.perform(request, reply, steps),
-            Err(ReadFault::Refused(refusal)) => self.refuse(refusal, reply),
+            Ok(request) => self.perform(request, noise, steps),
+            Err(ReadFault::Refused(why)) => Ok(Outcome::refused(why)),
             Err(ReadFault::Memory) => Err(Memory),
         }
     }
 
-    // Does what a request asks and appends the reply.
-    fn perform<L: Ledger>(
+    // What a request comes to.
+    fn perform<N: Noise, L: Ledger>(
         &mut self,
         request: Request,
-        reply: &mut Vec<u8>,
+        noise: &mut N,
         steps: &mut Steps<L>,
-    ) -> Result<(), Memory>
+    ) -> Result<Outcome, Memory>
         requires settled { AreSettled self.old }
         requires limits { IsWithinLimits request }
-        ensures does { Does result self.old (performed (state_of self.old) request)
-            self.new reply.old.items reply.new.items }
+        ensures responds { Responds (N.given noise.old) (N.given noise.new) (N.faults noise.old) (N.faults noise.new)
+            result self.old self.new (performed (state_of self.old) request Nothing) }
         ensures work { (n : ℕ) → step_bound (Ok request) ≡ Some n → steps.new ≤ steps.old + n }
     {
         match request {
-            Request::Sum { weights } => {
-                write_reply(self.alloc, &sum_reply(weights.as_slice()), reply)
-            }
+            Request::Measure {
+                plan,
+                rows,
+                epsilon,
+            } => self.measure(plan, rows.as_slice(), epsilon, noise, steps),
+            Request::Sum { weights } => Ok(Outcome::told(sum_reply(weights.as_slice()))),
             Request::Source {
                 name,
                 kinds,
                 signed,
                 budget,
-            } => self.declare(name, kinds, signed, budget, reply),
+            } => Ok(self.declare(name, kinds, signed, budget)),
             Request::Update {
                 source,
                 csv,
                 header,
-            } => self.update(source, &csv, header, reply, steps),
-            Request::Plan { name, plan } => self.plan(name, plan, reply, steps),
-            Request::Drop { plan } => self.drop_plan(plan, reply),
+            } => self.update(source, &csv, header, steps),
+            Request::Plan { name, plan } => self.plan(name, plan, steps),
+            Request::Drop { plan } => Ok(self.drop_plan(plan)),
             Request::Exact { of, rows } => {
                 let answer = self.exact(of, rows.as_slice(), steps)?;
-                write_reply(self.alloc, &answer, reply)
+                Ok(Outcome::told(answer))
             }
+            Request::Budget { source } => Ok(Outcome::told(self.budget(source))),
         }
-    }
-
-    /// Appends the reply of a refusal.
-    pub fn refuse(&self, refusal: Refusal, reply: &mut Vec<u8>) -> Result<(), Memory>
-        ensures ok { OnOk result (reply.new.items ≡ reply.old.items ++ reply_line (answer.Refused refusal)) }
-        ensures err { OnErr result (reply.new.items ≡ reply.old.items) }
-    {
-        write_reply(self.alloc, &Reply::Refused(refusal), reply)
     }
 }
 

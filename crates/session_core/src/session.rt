@@ -1,10 +1,11 @@
 //! The session: one line in, one reply out.
-ghost use Rattle.std.specs.Prelude.{◌≡◌, ◌+◌, ◌<◌, ◌≤◌, ℕ, [], IfOk, OnErr, Some, length};
+ghost use Rattle.std.specs.Prelude.{◌≡◌, ◌+◌, ◌<◌, ◌≤◌, ℕ, [], IfOk, OnErr, OnOk, Some, length};
 ghost use Rattle.request_text.specs.Requests.{request_on};
-ghost use Rattle.session_core.specs.Machine.{LineAnswered};
-ghost use Rattle.session_core.specs.Sound.{Sound};
-ghost use Rattle.session_core.specs.State.{start_state};
-ghost use Rattle.session_core.specs.Work.{step_bound};
+ghost use Rattle.io_edge.specs.Causes.{Rose};
+ghost use Rattle.request_machine.specs.Machine.{LineAnswered, noise_line};
+ghost use Rattle.request_machine.specs.Sound.{Sound};
+ghost use Rattle.request_machine.specs.State.{start_state};
+ghost use Rattle.request_machine.specs.Work.{step_bound};
 
 use crate::parts::Parts;
 use io_edge::{Noise, Shelf};
@@ -24,7 +25,7 @@ impl Model for Session {
     ghost use Rattle.std.specs.Coded.{codes};
     ghost use Rattle.datasets.specs.Code.{dataset_code};
     ghost use Rattle.plan_model.specs.contracts.step.Step as step;
-    ghost use Rattle.session_core.specs.State.{State};
+    ghost use Rattle.request_machine.specs.State.{State};
 
     ghost Value = { State };
 
@@ -49,7 +50,8 @@ impl Session {
     }
 
     /// Leaves the line's reply with its LF in `reply`, which is emptied first. A reply that refuses leaves
-    /// the session unchanged. After `Memory` it is unchanged too, and `reply` is empty.
+    /// the session unchanged. After `Memory` it is unchanged too, and `reply` is empty; noise that was drawn stays
+    /// drawn.
     pub fn answer<N: Noise, F: Shelf, L: Ledger>(
         &mut self,
         line: &[u8],
@@ -64,10 +66,11 @@ impl Session {
         ensures sound { Sound self.new }
         ensures work { (n : ℕ) → step_bound (request_on line.now) ≡ Some n → steps.new ≤ steps.old + n }
         ensures emptied { OnErr result (reply.new.items ≡ []) }
-        ensures noise { N.faults noise.new ≡ N.faults noise.old }
+        ensures later { N.faults noise.old ≤ N.faults noise.new }
+        ensures noise { OnOk result
+            (reply.new.items ≡ noise_line → Rose (N.faults noise.old) (N.faults noise.new)) }
         ensures shelf { F.faults shelf.new ≡ F.faults shelf.old }
     {
-        reply.clear();
-        self.parts.respond(line, reply, steps)
+        self.parts.answer(line, noise, reply, steps)
     }
 }

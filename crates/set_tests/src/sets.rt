@@ -2,7 +2,7 @@
 use frac_core::Frac;
 use std::alloc::Global;
 use std::test::Fail;
-use trial_rows::{MOST, are_changes, is_row, row, weights, whole};
+use trial_rows::{MOST, are_changes, are_weights, is_row, row, weights, whole};
 use weighted_set::{AddFault, HeldSet, Memory, SourceSet, WSet, law_changes};
 
 // Adds whole weights to rows of one number, and then commits or drops the changes. Answers how many there were.
@@ -162,6 +162,15 @@ fn a_set_holds_the_weights_that_were_set(rt: HostRuntime) -> Result<(), Fail> {
     let set = set_of(rt.alloc(), &[(3, 1), (7, 2), (-1, -2), (3, 4), (7, 0)])?;
     assert!(rt; has(&set, &[(-1, -2), (3, 4)]));
     assert_eq!(rt; set.weight(&row(rt.alloc(), 7)?), Frac::zero());
+    Ok(())
+}
+
+#[test]
+fn a_set_moves_its_rows_behind_a_list(rt: HostRuntime) -> Result<(), Fail> {
+    let set = set_of(rt.alloc(), &[(3, 4), (-1, -2)])?;
+    let mut list = weights(rt.alloc(), &[(9, 9)])?;
+    set.append_to(&mut list)?;
+    assert!(rt; are_weights(list.as_slice(), &[(9, 9), (-1, -2), (3, 4)]));
     Ok(())
 }
 

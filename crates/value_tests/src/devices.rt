@@ -4,9 +4,10 @@ ghost use Rattle.io_edge.specs.Limits.{fetch_limit, max_epsilon};
 ghost use Rattle.io_edge.specs.Path.{IsPath};
 
 use io_edge::{
-    Failed, MemShelf, MemSink, MemSource, Noise, Shelf, ShelfFault, Sink, Source, StdSink,
-    StdSource, SureNoise, SureSink, SureSource,
+    Failed, MemNoise, MemShelf, MemSink, MemSource, Noise, Shelf, ShelfFault, Sink, Source,
+    StdSink, StdSource, SureNoise, SureSink, SureSource,
 };
+use noise_lines::{FileNoise, FileSource, LineNoise};
 use std::test::Fail;
 
 // Each call through its trait.
@@ -68,6 +69,73 @@ fn sink_takes_pieces_and_fails_once_full(rt: HostRuntime) -> Result<(), Fail> {
     }
     assert_eq!(rt; sink.bytes(), b"abc".as_slice());
     Ok(())
+}
+
+#[test]
+fn noise_gives_its_numbers_and_fails_after_the_last(rt: HostRuntime) -> Result<(), Fail> {
+    let numbers = [5, -7, 0].to_vec(rt.alloc())?;
+    let mut noise = MemNoise::new(rt.alloc(), numbers, [1].to_vec(rt.alloc())?)?;
+    let rows = [Ok(5), Err(Failed), Ok(-7), Ok(0), Err(Failed), Err(Failed)];
+    for number in rows {
+        assert_eq!(rt; draw(&mut noise, 1), number);
+    }
+    Ok(())
+}
+
+#[test]
+fn each_draw_takes_a_line(rt: HostRuntime) -> Result<(), Fail> {
+    let rows = [
+        ("5\r\n", Ok(5)),
+        ("-7\n", Ok(-7)),
+        ("\n", Err(Failed)),
+        ("+07\n", Ok(7)),
+        (" 1\n", Err(Failed)),
+        ("1.0\n", Err(Failed)),
+        ("\r1\n", Err(Failed)),
+        ("9223372036854775807\n", Ok(i64::MAX)),
+        ("9223372036854775808\n", Err(Failed)),
+        ("-9223372036854775808\r\n", Ok(i64::MIN)),
+        ("00000000000000000001\n", Err(Failed)),
+        (
+            "12345678901234567890123456789012345678901234567890\n",
+            Err(Failed),
+        ),
+        ("Å\n", Err(Failed)),
+        ("\r\n", Err(Failed)),
+        ("3\r", Ok(3)),
+        ("", Err(Failed)),
+        ("", Err(Failed)),
+    ];
+    let mut bytes = Vec::new(rt.alloc());
+    for (line, _) in rows {
+        bytes.extend_from_slice(line.as_bytes())?;
+    }
+    let source = MemSource::new(bytes, 7, Vec::new(rt.alloc()));
+    let mut noise = LineNoise::new(rt.alloc(), source);
+    for (line, number) in rows {
+        assert_eq!(rt; draw(&mut noise, 1_000_000_000), number, "{line}");
+    }
+    Ok(())
+}
+
+#[test]
+fn a_line_goes_on_after_a_fault_of_its_source(rt: HostRuntime) -> Result<(), Fail> {
+    let bytes = b"-123\n4\n".to_vec(rt.alloc())?;
+    let source = MemSource::new(bytes, 1, [2, 3].to_vec(rt.alloc())?);
+    let mut noise = LineNoise::new(rt.alloc(), source);
+    for number in [Err(Failed), Err(Failed), Ok(-123), Ok(4), Err(Failed)] {
+        assert_eq!(rt; draw(&mut noise, 1), number);
+    }
+    Ok(())
+}
+
+#[test]
+fn a_file_that_is_missing_is_a_fault_at_each_draw(rt: HostRuntime) {
+    let source = FileSource::new(&rt, "no.such.noise");
+    let mut noise: FileNoise<'_> = LineNoise::new(rt.alloc(), source);
+    for _ in 0..2 {
+        assert_eq!(rt; draw(&mut noise, 1), Err(Failed));
+    }
 }
 
 #[test]

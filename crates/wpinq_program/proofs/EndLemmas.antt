@@ -7,7 +7,7 @@ use Rattle.io_edge.specs.Known.{Loses, IsUsedUp}
 use Rattle.io_edge.proofs.KnownLemmas.{Loses-none, Loses-append}
 use Rattle.line_runs.specs.Lines.{whole_lines, open_line, last_line, Lines, WholeLines}
 use Rattle.line_runs.proofs.LineLemmas.{whole_lines-append, open_line-append}
-use Rattle.session_core.specs.State.{State}
+use Rattle.request_machine.specs.State.{State}
 use Rattle.wpinq_program.specs.Served.{Moment, Served, ServedInPart}
 use Rattle.wpinq_program.specs.Outcome.{IsStatus, IsComplete, Ends, Outcome, Streaming, Streamed}
 use Rattle.wpinq_program.specs.declared.stop.Stop.TheVariants.{InputEnd, ReadFault, WriteFault, OverLimit}

@@ -1,5 +1,6 @@
 pub mod TakenLemmas
 pub mod LineLemmas
 pub mod Segments
+pub mod FaultLemmas
 pub mod ServedLemmas
 pub mod EndLemmas

@@ -7,7 +7,7 @@ use Rattle.std.proofs.lemmas.List.{take_all, take_min, length-take-le, take-appe
 use Rattle.std.proofs.Math.Seq.{take-append-add}
 use Rattle.line_runs.specs.Lines.{without_cr}
 use Rattle.line_runs.proofs.LineLemmas.{without_cr-long}
-use Rattle.session_core.specs.Limits.{max_line}
+use Rattle.request_machine.specs.Limits.{max_line}
 use Rattle.wpinq_program.specs.Limits.{kept_len, kept_of}
 
 -- a line is filled up to n bytes

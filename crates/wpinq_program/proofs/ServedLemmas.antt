@@ -11,13 +11,15 @@ use Rattle.line_runs.specs.Lines.{without_cr, whole_lines, open_line, last_line}
 use Rattle.line_runs.specs.Runs.{Run}
 use Rattle.line_runs.proofs.LineLemmas.{whole_lines-append, open_line-lf, without_cr-long}
 use Rattle.line_runs.proofs.RunLemmas.{Run-nil, Run-append, Run-silent_from, Run-one_from, Run-same}
-use Rattle.session_core.specs.Machine.{Answers}
-use Rattle.session_core.specs.State.{State}
+use Rattle.request_machine.specs.Machine.{Answers}
+use Rattle.request_machine.specs.State.{State}
+use Rattle.wpinq_program.specs.Faults.{RoseBy, noise_replies}
+use Rattle.wpinq_program.proofs.FaultLemmas.{RoseBy-append, RoseBy-none}
 use Rattle.wpinq_program.specs.Served.{joined, IsProperFront, Moment, Served, ServedInPart}
 use Rattle.wpinq_program.proofs.Segments.{Segment, whole_lines-segment, whole_lines-rest, open_line-rest}
 use Rattle.wpinq_program.proofs.LineLemmas.{kept-extend, kept_is_long, kept_whole, none_kept, short_or_long, some_kept}
-use Rattle.session_core.proofs.MachineLemmas.{Answers-overlong}
-use Rattle.session_core.specs.Limits.{max_line}
+use Rattle.request_machine.proofs.MachineLemmas.{Answers-overlong}
+use Rattle.request_machine.specs.Limits.{max_line}
 use Rattle.wpinq_program.specs.Limits.{kept_of}
 
 pub Served-none : (m : Moment) → Served m m [] true
@@ -28,6 +30,7 @@ Served-none m = record {
   run = Run-nil Answers m.state;
   drawn = Gains-none m.given;
   count = omega arith;
+  faults = RoseBy-none m.faults;
   put = Gains-none m.written;
   whole = refl;
 }
@@ -41,6 +44,7 @@ Served-empty m = record {
   run = Run-silent_from Answers m.state m.state [] [] (refl, refl, refl);
   drawn = Gains-none m.given;
   count = omega arith;
+  faults = RoseBy-none m.faults;
   put = Gains-none m.written;
   whole = refl;
 }
@@ -64,6 +68,7 @@ Served-append a b c first second all p q = record {
   run = Run-append Answers a.state b.state c.state first second p.given q.given p.replies q.replies p.run q.run;
   drawn = Gains-append a.given b.given c.given p.given q.given p.drawn q.drawn;
   count = omega (arith, p.count, q.count, length-append p.replies q.replies);
+  faults = RoseBy-append a.faults b.faults c.faults p.replies q.replies p.faults q.faults;
   put = Gains-append a.written b.written c.written p.text q.text p.put q.put;
   whole = rw (flat_map-append, ← p.whole) (whole_behind all p.text (joined q.replies) q.text q.whole);
 }
@@ -98,15 +103,17 @@ written_whole reply n (Err x) e = (n, e, refl)
 -- one line that isn't empty
 pub Served-answered : (a b : Moment) (line : List ℕ) (given : List (ℕ × ℤ)) (reply : List ℕ) (n : ℕ) (result : Result (Unit {0}) Failed)
     → 0 < length line → Answers a.state line given reply b.state → Gains a.given b.given given → b.lines ≡ a.lines + 1
+    → RoseBy (noise_replies (reply ∷ [])) a.faults b.faults
     → Gains a.written b.written (take n reply) → MatchResult result (λ _. n ≡ length reply) (λ _. n < length reply)
     → Served a b (line ∷ []) (is_ok result)
-Served-answered a b line given reply n result some answered drawn count put whole = record {
+Served-answered a b line given reply n result some answered drawn count faults put whole = record {
   given = given;
   replies = reply ∷ [];
   text = take n reply;
   run = Run-one_from Answers a.state b.state line given (reply ∷ []) some (reply, refl, answered);
   drawn = drawn;
   count = omega (arith, count);
+  faults = faults;
   put = put;
   whole = rw (append-nil) (written_whole reply n result whole);
 }
@@ -136,6 +143,7 @@ Served-kept a b line kept all k s = record {
   run = run_of_kept a.state b.state line s.given s.replies (subst (λ l. Run Answers a.state (without_cr l ∷ []) s.given s.replies b.state) k s.run);
   drawn = s.drawn;
   count = s.count;
+  faults = s.faults;
   put = s.put;
   whole = s.whole;
 }

@@ -1,4 +1,5 @@
 pub mod Limits
+pub mod Faults
 pub mod Served
 pub mod Words
 pub mod Outcome

@@ -1,6 +1,6 @@
 -- The limits of a run.
 use Rattle.std.specs.Prelude.{ℕ, ◌+◌, List, take}
-use Rattle.session_core.specs.Limits.{max_line}
+use Rattle.request_machine.specs.Limits.{max_line}
 
 -- the most bytes of input that a run takes
 abbrev pub max_bytes : ℕ

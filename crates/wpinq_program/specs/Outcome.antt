@@ -3,7 +3,7 @@ use Rattle.std.specs.Prelude.{◌≡◌, ◌⊎◌, ◌↔◌, ℕ, ◌<◌, ◌
 use Rattle.io_edge.specs.Causes.{Rose}
 use Rattle.io_edge.specs.Known.{Loses, IsUsedUp}
 use Rattle.line_runs.specs.Lines.{Lines, WholeLines, open_line}
-use Rattle.session_core.specs.State.{State}
+use Rattle.request_machine.specs.State.{State}
 use Rattle.wpinq_program.specs.Served.{Moment, Served, ServedInPart}
 use Rattle.wpinq_program.specs.declared.stop.Stop.{Stop}
 use Rattle.wpinq_program.specs.declared.stop.Stop.TheVariants.{InputEnd, ReadFault, WriteFault, OverLimit}

@@ -3,8 +3,9 @@ use Rattle.std.specs.Prelude.{◌≡◌, ℕ, ℤ, ◌+◌, ◌<◌, Bool, true,
 use Rattle.std.specs.List.{flat_map}
 use Rattle.io_edge.specs.Known.{Gains}
 use Rattle.line_runs.specs.Runs.{Run}
-use Rattle.session_core.specs.Machine.{Answers}
-use Rattle.session_core.specs.State.{State}
+use Rattle.request_machine.specs.Machine.{Answers}
+use Rattle.request_machine.specs.State.{State}
+use Rattle.wpinq_program.specs.Faults.{RoseBy, noise_replies}
 use Rattle.wpinq_program.specs.declared.responder.Responder.{Responder}
 
 -- the replies as one text
@@ -15,22 +16,25 @@ joined replies = flat_map (λ reply. reply) replies
 abbrev pub IsProperFront : List ℕ → List ℕ → Type 0
 IsProperFront part text = (n : ℕ) × (n < length text) × (part ≡ take n text)
 
--- the machine and what is known of its devices, at some moment
+-- the machine and what is known of its devices, with the noise's count of faults, at some moment
 pub record Moment : Type 0 where
   pub state : State
   pub lines : ℕ
   pub written : Option (List ℕ)
   pub given : Option (List (ℕ × ℤ))
+  pub faults : ℕ
 
 -- the moment of a run with this state
-abbrev pub moment : ℕ → Option (List ℕ) → Option (List (ℕ × ℤ)) → State → Moment
-moment lines written given state = record { state = state; lines = lines; written = written; given = given }
+abbrev pub moment : ℕ → Option (List ℕ) → Option (List (ℕ × ℤ)) → ℕ → State → Moment
+moment lines written given faults state =
+    record { state = state; lines = lines; written = written; given = given; faults = faults }
 
 -- the moment of a run with this responder
-abbrev pub responding : Responder → Option (List ℕ) → Option (List (ℕ × ℤ)) → Moment
-responding responder written given = moment responder.lines written given responder.session
+abbrev pub responding : Responder → Option (List ℕ) → Option (List (ℕ × ℤ)) → ℕ → Moment
+responding responder written given faults = moment responder.lines written given faults responder.session
 
--- From old to new the machine ran over these lines, and what was written are its replies: all of them, or a proper front.
+-- From old to new the machine ran over these lines, and what was written are its replies: all of them, or a proper
+-- front. The noise's count rose at least as often as a reply refuses for noise, or stands at its last value.
 pub record Served (old new : Moment) (lines : List (List ℕ)) (all : Bool) : Type 0 where
   pub given : List (ℕ × ℤ)
   pub replies : List (List ℕ)
@@ -38,6 +42,7 @@ pub record Served (old new : Moment) (lines : List (List ℕ)) (all : Bool) : Ty
   pub run : Run Answers old.state lines given replies new.state
   pub drawn : Gains old.given new.given given
   pub count : new.lines ≡ old.lines + length replies
+  pub faults : RoseBy (noise_replies replies) old.faults new.faults
   pub put : Gains old.written new.written text
   pub whole : MatchBool all (text ≡ joined replies) (IsProperFront text (joined replies))
 

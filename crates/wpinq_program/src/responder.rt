@@ -3,7 +3,7 @@ ghost use Rattle.std.specs.Prelude.{◌≡◌, ◌+◌, ◌^◌, ◌-◌, ◌<�
 ghost use Rattle.io_edge.specs.Causes.{HasCause};
 ghost use Rattle.wpinq_program.specs.Served.{PieceServed, Served, responding};
 ghost use Rattle.line_runs.specs.Lines.{whole_lines, open_line, last_line};
-ghost use Rattle.session_core.specs.State.{start_state};
+ghost use Rattle.request_machine.specs.State.{start_state};
 ghost use Rattle.wpinq_program.specs.Limits.{kept_of};
 
 use crate::line_buffer::LineBuffer;
@@ -49,8 +49,8 @@ impl Responder {
         steps: &mut Steps<L>,
     ) -> Result<(), Failed>
         requires { self.old.lines < 2 ^ 64 - 1 }
-        ensures served { Served (responding self.old (K.written out.old) (N.given noise.old))
-            (responding self.new (K.written out.new) (N.given noise.new)) (line.now ∷ []) (is_ok result) }
+        ensures served { Served (responding self.old (K.written out.old) (N.given noise.old) (N.faults noise.old))
+            (responding self.new (K.written out.new) (N.given noise.new) (N.faults noise.new)) (line.now ∷ []) (is_ok result) }
         ensures cause { HasCause (K.faults out.old) (K.faults out.new) result }
         ensures lines { self.new.lines ≤ self.old.lines + 1 }
     {
@@ -79,8 +79,8 @@ impl Responder {
     ) -> Result<(), Failed>
         requires { self.old.lines + length piece.now < 2 ^ 64 }
         ensures served { (line : List ℕ) → begun.old ≡ kept_of line → PieceServed result
-            (responding self.old (K.written out.old) (N.given noise.old))
-            (responding self.new (K.written out.new) (N.given noise.new)) (whole_lines line piece.now) }
+            (responding self.old (K.written out.old) (N.given noise.old) (N.faults noise.old))
+            (responding self.new (K.written out.new) (N.given noise.new) (N.faults noise.new)) (whole_lines line piece.now) }
         ensures begun { (line : List ℕ) → begun.old ≡ kept_of line
             → OnOk result (begun.new ≡ kept_of (open_line line piece.now)) }
         ensures cause { HasCause (K.faults out.old) (K.faults out.new) result }
@@ -109,8 +109,8 @@ impl Responder {
     ) -> Result<(), Failed>
         requires { self.old.lines < 2 ^ 64 - 1 }
         ensures served { (line : List ℕ) → begun.now ≡ kept_of line → Served
-            (responding self.old (K.written out.old) (N.given noise.old))
-            (responding self.new (K.written out.new) (N.given noise.new)) (last_line line) (is_ok result) }
+            (responding self.old (K.written out.old) (N.given noise.old) (N.faults noise.old))
+            (responding self.new (K.written out.new) (N.given noise.new) (N.faults noise.new)) (last_line line) (is_ok result) }
         ensures cause { HasCause (K.faults out.old) (K.faults out.new) result }
     {
         if begun.is_empty() {

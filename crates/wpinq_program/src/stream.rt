@@ -30,8 +30,8 @@ pub fn serve_stream<S: Source, K: Sink, N: Noise, F: Shelf, L: Ledger>(
     requires begun { begun.old ≡ [] }
     requires lines { responder.old.lines ≡ 0 }
     ensures streamed { Streamed max (S.left src.old) (S.left src.new)
-        (responding responder.old (K.written out.old) (N.given noise.old))
-        (responding responder.new (K.written out.new) (N.given noise.new)) begun.new result }
+        (responding responder.old (K.written out.old) (N.given noise.old) (N.faults noise.old))
+        (responding responder.new (K.written out.new) (N.given noise.new) (N.faults noise.new)) begun.new result }
     ensures lines { responder.new.lines ≤ max }
     ensures later { K.faults out.old ≤ K.faults out.new }
     ensures read_fault { result ≡ Stop.ReadFault → Rose (S.faults src.old) (S.faults src.new) }

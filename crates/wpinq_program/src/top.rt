@@ -1,7 +1,7 @@
 //! The top call.
 ghost use Rattle.std.specs.Prelude.{◌≡◌, ◌↔◌, ◌^◌, ◌<◌, ◌≤◌, ◌≢◌, [], length, false, unwrap_or, None, IfOk};
 ghost use Rattle.io_edge.specs.Causes.{Rose};
-ghost use Rattle.session_core.specs.State.{start_state};
+ghost use Rattle.request_machine.specs.State.{start_state};
 ghost use Rattle.wpinq_program.specs.Limits.{max_bytes, piece_len};
 ghost use Rattle.wpinq_program.specs.Outcome.{Outcome, IsComplete, IsStatus};
 ghost use Rattle.wpinq_program.specs.Served.{moment};
@@ -52,8 +52,8 @@ pub fn wpinq<S: Source, K: Sink, N: Noise, F: Shelf>(
     // What each status says of the bytes taken, the lines answered and the replies written.
     ensures outcome { let state = start_state (unwrap_or (flag_of words.now) false) in
         Outcome max_bytes (S.left src.old) (S.left src.new)
-        (moment 0 (K.written out.old) (N.given noise.old) state)
-        (moment result.lines (K.written out.new) (N.given noise.new)) result.status }
+        (moment 0 (K.written out.old) (N.given noise.old) (N.faults noise.old) state)
+        (moment result.lines (K.written out.new) (N.given noise.new) (N.faults noise.new)) result.status }
     ensures status { IsStatus result.status }
 
     // The cause of each.
@@ -123,8 +123,8 @@ fn run<L: Ledger, S: Source, K: Sink, N: Noise, F: Shelf>(
     requires room { 0 < length piece.old }
     requires limit { max < 2 ^ 63 }
     ensures outcome { Outcome max (S.left src.old) (S.left src.new)
-        (moment 0 (K.written out.old) (N.given noise.old) responder.session)
-        (moment result.lines (K.written out.new) (N.given noise.new)) result.status }
+        (moment 0 (K.written out.old) (N.given noise.old) (N.faults noise.old) responder.session)
+        (moment result.lines (K.written out.new) (N.given noise.new) (N.faults noise.new)) result.status }
     ensures status { IsStatus result.status }
     ensures words { result.status ≢ 2 }
     ensures read_fault { result.status ≡ 3 → Rose (S.faults src.old) (S.faults src.new) }

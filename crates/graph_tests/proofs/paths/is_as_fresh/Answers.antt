@@ -6,4 +6,4 @@ use Rattle.graph_tests.proofs.paths.is_as_fresh.Goals as goal
 
 pub build-requires-clause-keeps : goal.build-requires-clause-keeps
 build-requires-clause-keeps g c =
-    subst (λ types. Keeps types (committed_family c.args.trial.now.sources)) c.requires.of_types c.requires.stands.plan.family.keeps
+    subst (λ types. Keeps types (committed_family c.args.trial.now.sources)) c.requires.running.of_types c.requires.running.stands.plan.family.keeps

@@ -9,9 +9,20 @@ prepare-requires-clause-inputs g c =
     let A = c.args.left.now.committed in
     let B = c.args.right.now.committed in
     let left = c.args.on_left.now in
-    let right = c.args.on_right.now in
-    (A, (B, (applied A left, (applied B right, MayBecome-served g.E.Operator.standing c.args.engine.now A B left right c.requires.serves c.requires.left_rows c.requires.right_rows
-    c.in_ok-_left.ensures.in_range c.in_ok-_right.ensures.in_range c.requires.on_left c.requires.on_right))))
+    let right = c.args.on_right.now in (
+      A,
+      (
+        B,
+        (
+          applied A left,
+          (
+            applied B right,
+            MayBecome-served g.E.Operator.standing c.args.engine.now A B left right c.requires.serves c.requires.left_rows c.requires.right_rows
+                c.in_ok-_left.ensures.in_range c.in_ok-_right.ensures.in_range c.requires.on_left c.requires.on_right,
+          ),
+        ),
+      ),
+    )
 
 pub returns-in-Ok : goal.returns-in-Ok
 returns-in-Ok g c =

@@ -7,8 +7,8 @@ abbrev pub invariant-loop-total : goal.invariant-loop-total
 invariant-loop-total g l = record {
   within : l.total ≤ l.max;
   streaming : Streaming l.total (g.S.Source.left l.initial.src) (g.S.Source.left l.src)
-      (responding l.initial.responder (g.K.Sink.written l.initial.out) (g.N.Noise.given l.initial.noise))
-      (responding l.responder (g.K.Sink.written l.out) (g.N.Noise.given l.noise))
+      (responding l.initial.responder (g.K.Sink.written l.initial.out) (g.N.Noise.given l.initial.noise) (g.N.Noise.faults l.initial.noise))
+      (responding l.responder (g.K.Sink.written l.out) (g.N.Noise.given l.noise) (g.N.Noise.faults l.noise))
       l.begun;
   lines : l.responder.lines ≤ l.total;
   read : g.S.Source.faults l.initial.src ≤ g.S.Source.faults l.src;

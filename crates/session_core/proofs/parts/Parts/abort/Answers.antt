@@ -1,8 +1,8 @@
 use Rattle.std.proofs.Common.{List, ap, subst, sym, ◌∙◌}
 use Rattle.std.specs.Prelude.{All}
-use Rattle.session_core.specs.Planned.{Holds, plan_states}
-use Rattle.session_core.specs.State.{family_of, types_of}
-use Rattle.session_core.specs.declared.plans.Planned.{Planned}
+use Rattle.session_data.specs.Planned.{Holds, plan_states}
+use Rattle.request_machine.specs.State.{family_of, types_of}
+use Rattle.session_data.specs.declared.plans.Planned.{Planned}
 use Rattle.session_core.proofs.Aborted.{AreSettled-dropped}
 use Rattle.session_core.proofs.parts.Parts.abort.Goals as goal
 

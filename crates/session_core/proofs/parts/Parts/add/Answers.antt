@@ -1,14 +1,15 @@
-use Rattle.std.proofs.Common.{List, None, ap, ap₂, subst, ◌∙◌, length}
+use Rattle.std.proofs.Common.{List, None, Ok, ap, ap₂, subst, ◌∙◌, length}
 use Rattle.weighted_set.specs.Adding.{IsAddFault}
 use Rattle.weighted_set.specs.declared.adding.AddFault.{AddFault}
 use Rattle.messages.specs.declared.refusal.Refusal.TheVariants as refusal
-use Rattle.session_core.specs.Machine.{added_at, first_misfit, updated_at}
+use Rattle.messages.specs.declared.reply.Reply.TheVariants as reply
+use Rattle.request_machine.specs.Updates.{added_at, first_misfit, updated_at}
 use Rattle.session_core.specs.Parts.{state_of}
-use Rattle.session_core.specs.State.{SourceState, State, family_of, types_of}
+use Rattle.request_machine.specs.State.{SourceState, State, family_of, types_of}
 use Rattle.session_core.specs.declared.parts.Parts.{Parts}
-use Rattle.session_core.proofs.Added.{ArePending-added, AreSettled-refused, Does-same, added_allowed, added_below, added_out, state-refused}
-use Rattle.session_core.proofs.Outcomes.{Does-refused}
-use Rattle.session_core.proofs.Turned.{somewhere}
+use Rattle.session_core.proofs.ComesTo.{Does-alike, Does-told}
+use Rattle.session_core.proofs.Added.{ArePending-added, AreSettled-refused, added_allowed, added_below, added_out, state-refused}
+use Rattle.session_data.proofs.Turned.{somewhere}
 use Rattle.session_core.proofs.parts.Parts.add.Goals as goal
 
 pub follow-requires : goal.follow-requires
@@ -23,7 +24,7 @@ returns-in-Ok g c = λ source here.
     let state = state_of old in
     let adding = c.in-Ok.ensures.changes source here in
     let turned = c.in-Ok.ensures.pending source here in
-    Does-same c.follow.result (record old { sources = c.prepare.new.self }) old _ _ c.follow.new.self c.args.reply.now.items c.follow.new.reply.items
+    Does-alike c.follow.result (record old { sources = c.prepare.new.self }) old c.follow.new.self _ _
     (state-refused old c.prepare.new.self c.prepare.ensures.committed)
     (ap₂ (λ (committed pending : List SourceState).
     let before : State = record state { sources = committed } in
@@ -38,11 +39,12 @@ returns-in-Err-Range g c = λ source here.
     let new : Parts = record old { sources = c.prepare.new.self } in
     let fault = subst (λ (e : AddFault). IsAddFault source.rows c.args.added.now source.signed e) c.in-Err-Range.field-0-is (c.in-Err-Range.ensures.err source here) in
     let same = state-refused old c.prepare.new.self c.prepare.ensures.committed in
-    let told = added_out (state_of new) c.args.at source c.args.added.now c.in-Err-Range.at fault in
-    Does-same c.refuse.result new old (added_at (state_of new) c.args.at source c.args.added.now) _ new c.args.reply.now.items c.refuse.new.reply.items same
+    let is = added_out (state_of new) c.args.at source c.args.added.now c.in-Err-Range.at fault in
+    let told = c.refused in
+    Does-alike (Ok told.result) new old new (added_at (state_of new) c.args.at source c.args.added.now) _ same
     (ap (λ s. added_at s c.args.at source c.args.added.now) same)
-    (Does-refused c.refuse.result new _ (refusal.RecordRange c.in-Err-Range.at) c.args.reply.now.items c.refuse.new.reply.items
-    (AreSettled-refused old c.prepare.new.self c.requires.settled c.prepare.ensures.committed c.in-Err-Range.ensures.none_pending) told c.refuse.ensures.ok c.refuse.ensures.err)
+    (Does-told new told.result (reply.Refused (refusal.RecordRange c.in-Err-Range.at)) _
+    (AreSettled-refused old c.prepare.new.self c.requires.settled c.prepare.ensures.committed c.in-Err-Range.ensures.none_pending) told.ensures.reply told.ensures.effect is)
 
 pub returns-in-Err-Negative : goal.returns-in-Err-Negative
 returns-in-Err-Negative g c = λ source here.
@@ -50,8 +52,17 @@ returns-in-Err-Negative g c = λ source here.
     let new : Parts = record old { sources = c.prepare.new.self } in
     let fault = subst (λ (e : AddFault). IsAddFault source.rows c.args.added.now source.signed e) c.in-Err-Negative.field-0-is (c.in-Err-Negative.ensures.err source here) in
     let same = state-refused old c.prepare.new.self c.prepare.ensures.committed in
-    let told = added_below (state_of new) c.args.at source c.args.added.now c.in-Err-Negative.at fault.0 fault.1 fault.2 in
-    Does-same c.refuse-in-Err-Negative.result new old (added_at (state_of new) c.args.at source c.args.added.now) _ new c.args.reply.now.items c.refuse-in-Err-Negative.new.reply.items same
+    let is = added_below (state_of new) c.args.at source c.args.added.now c.in-Err-Negative.at fault.0 fault.1 fault.2 in
+    let told = c.refused-in-Err-Negative in
+    Does-alike (Ok told.result) new old new (added_at (state_of new) c.args.at source c.args.added.now) _ same
     (ap (λ s. added_at s c.args.at source c.args.added.now) same)
-    (Does-refused c.refuse-in-Err-Negative.result new _ (refusal.Negative c.in-Err-Negative.at) c.args.reply.now.items c.refuse-in-Err-Negative.new.reply.items
-    (AreSettled-refused old c.prepare.new.self c.requires.settled c.prepare.ensures.committed c.in-Err-Negative.ensures.none_pending) told c.refuse-in-Err-Negative.ensures.ok c.refuse-in-Err-Negative.ensures.err)
+    (Does-told new told.result (reply.Refused (refusal.Negative c.in-Err-Negative.at)) _
+    (AreSettled-refused old c.prepare.new.self c.requires.settled c.prepare.ensures.committed c.in-Err-Negative.ensures.none_pending) told.ensures.reply told.ensures.effect is)
+
+pub returns-in-Err-Memory : goal.returns-in-Err-Memory
+returns-in-Err-Memory g c = λ source here.
+    let old = c.args.self.now in
+    record {
+      same = state-refused old c.prepare.new.self c.prepare.ensures.committed;
+      done = AreSettled-refused old c.prepare.new.self c.requires.settled c.prepare.ensures.committed c.in-Err-Memory.ensures.none_pending;
+    }

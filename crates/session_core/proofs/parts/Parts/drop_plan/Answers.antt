@@ -1,23 +1,24 @@
-use Rattle.std.proofs.Common.{ap, arith, refl, sym, ◌∙◌}
-use Rattle.std.specs.List.{remove}
+use Rattle.std.proofs.Common.{sym}
 use Rattle.messages.specs.declared.refusal.Refusal.TheVariants as refusal
+use Rattle.messages.specs.declared.reply.Reply.TheVariants as reply
 use Rattle.messages.specs.declared.thing.Thing.TheVariants as thing
-use Rattle.session_core.specs.Machine.{dropped}
+use Rattle.request_machine.specs.Declarations.{dropped}
+use Rattle.request_machine.specs.Named.{plan_name}
+use Rattle.request_machine.proofs.Outcomes.{dropped_known, dropped_unknown, place_within}
+use Rattle.session_data.specs.Planned.{plan_states}
 use Rattle.session_core.specs.Parts.{state_of}
-use Rattle.session_core.proofs.Dropped.{Does-dropped}
-use Rattle.session_core.proofs.Outcomes.{Does-refused, dropped_unknown}
+use Rattle.session_core.proofs.ComesTo.{ComesTo-told}
 use Rattle.session_core.proofs.parts.Parts.drop_plan.Goals as goal
 
-pub returns-in_default : goal.returns-in_default
-returns-in_default c =
-    Does-refused c.refuse.result c.args.self.now (dropped (state_of c.args.self.now) c.args.name) (refusal.Unknown thing.Plan c.args.name) c.args.reply.now.items c.refuse.new.reply.items
-    c.requires (dropped_unknown (state_of c.args.self.now) c.args.name (sym c.in_default.ensures)) c.refuse.ensures.ok c.refuse.ensures.err
+pub returns-in-Some : goal.returns-in-Some
+returns-in-Some c =
+    let state = state_of c.args.self.now in
+    record {
+      ready = (c.requires, place_within plan_name c.args.name state.plans c.in-Some.at (sym c.in-Some.ensures));
+      leads = sym (dropped_known state c.args.name c.in-Some.at (sym c.in-Some.ensures));
+    }
 
-pub returns : goal.returns
-returns c =
-    let names = c.shift_remove_index-name in
-    let plans = c.remove-plan in
-    Does-dropped c.args.self.now (record c.args.self.now { plan_names = names.new.self; plans = plans.new.self }) c.args.name c.in-Some.at c.args.reply.now.items c.write_reply.new.into.items
-    c.requires refl refl (sym c.in-Some.ensures) plans.ensures.items (names.ensures.keys ∙ ap (λ ks. remove ks c.in-Some.at) c.reserve.ensures.keys)
-    (omega (arith, c.in_ok-reserve.ensures.ok, names.ensures.room.0, plans.ensures.len, c.len.ensures))
-    (omega (arith, plans.ensures.capacity, c.requires.kept.plans_room)) c.in_ok-write_reply.ensures.ok
+pub returns-in-None : goal.returns-in-None
+returns-in-None c =
+    ComesTo-told c.args.self.now c.refused.result (reply.Refused (refusal.Unknown thing.Plan c.args.name)) (dropped (state_of c.args.self.now) c.args.name)
+    c.requires c.refused.ensures.reply c.refused.ensures.effect (dropped_unknown (state_of c.args.self.now) c.args.name (sym c.in-None.ensures))

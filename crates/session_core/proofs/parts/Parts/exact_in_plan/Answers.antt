@@ -1,15 +1,15 @@
 use Rattle.std.proofs.Common.{◌<◌, ◌∙◌, ap, length, subst, sym}
 use lib.ListN.{length-map}
 use Rattle.messages.specs.declared.reply.Reply.TheVariants as reply
-use Rattle.session_core.specs.Named.{plan_name}
+use Rattle.request_machine.specs.Named.{plan_name}
 use Rattle.session_core.specs.Parts.{state_of}
-use Rattle.session_core.specs.Planned.{IsSettled, plan_state, plan_states}
-use Rattle.session_core.specs.State.{family_of, types_of}
+use Rattle.session_data.specs.Planned.{IsSettled, plan_state, plan_states}
+use Rattle.request_machine.specs.State.{family_of, types_of}
 use Rattle.plan_model.specs.Evaluation.{eval}
-use Rattle.session_core.specs.Machine.{columns_of}
-use Rattle.session_core.proofs.LookedUp.{looked_up-refused, looked_up-weights, plan_known, plan_unknown}
-use Rattle.session_core.proofs.Outcomes.{place_within}
-use Rattle.session_core.proofs.PlanLoops.{state_here}
+use Rattle.request_machine.specs.Declarations.{columns_of}
+use Rattle.request_machine.proofs.LookedUp.{looked_up-refused, looked_up-weights, plan_known, plan_unknown}
+use Rattle.request_machine.proofs.Outcomes.{place_within}
+use Rattle.session_data.proofs.PlanLoops.{state_here}
 use Rattle.session_core.proofs.parts.Parts.exact_in_plan.Goals as goal
 
 pub returns-in_default-clause-reply : goal.returns-in_default-clause-reply

@@ -6,12 +6,12 @@ use Rattle.datasets.specs.Dataset.{Dataset, at}
 use Rattle.plan_model.specs.declared.source_types.SourceType.{SourceType}
 use Rattle.messages.specs.declared.reply.Reply.TheVariants as reply
 use Rattle.weighted_set.specs.Held.{HeldDatasets}
-use Rattle.session_core.specs.Named.{source_name}
+use Rattle.request_machine.specs.Named.{source_name}
 use Rattle.session_core.specs.Parts.{state_of}
-use Rattle.session_core.specs.State.{SourceState}
-use Rattle.session_core.proofs.LookedUp.{looked_up-refused, looked_up-weights, source_known, source_unknown}
-use Rattle.session_core.proofs.Outcomes.{place_within}
-use Rattle.session_core.proofs.Turned.{rows_here, somewhere, type_here}
+use Rattle.request_machine.specs.State.{SourceState}
+use Rattle.request_machine.proofs.LookedUp.{looked_up-refused, looked_up-weights, source_known, source_unknown}
+use Rattle.request_machine.proofs.Outcomes.{place_within}
+use Rattle.session_data.proofs.Turned.{rows_here, somewhere, type_here}
 use Rattle.session_core.proofs.parts.Parts.exact_in_source.Goals as goal
 
 pub returns-in_default : goal.returns-in_default

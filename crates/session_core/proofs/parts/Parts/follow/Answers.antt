@@ -1,19 +1,18 @@
-use Rattle.std.proofs.Common.{List, None, Option, Some, ap, refl, subst, sym, ◌∙◌, ℕ}
+use Rattle.std.proofs.Common.{List, None, Ok, Option, Some, ap, refl, subst, sym, ◌∙◌, ℕ}
 use Rattle.std.specs.Vec.{with_items}
 use Rattle.plan_model.specs.declared.source_types.SourceType.{SourceType}
 use Rattle.messages.specs.declared.refusal.Refusal.{Refusal}
 use Rattle.messages.specs.declared.refusal.Refusal.TheVariants as refusal
 use Rattle.messages.specs.declared.reply.Reply.{Reply}
 use Rattle.messages.specs.declared.reply.Reply.TheVariants as reply
-use Rattle.session_core.specs.Machine.{first_misfit, updated_at}
+use Rattle.request_machine.specs.Updates.{first_misfit, updated_at}
 use Rattle.session_core.specs.Parts.{state_of}
-use Rattle.session_core.proofs.Added.{Does-same}
-use Rattle.session_core.specs.Planned.{Holds, IsFirstMisfit, IsPrepared, plan_states}
-use Rattle.session_core.specs.State.{PlanState, SourceState, State, family_of, types_of}
-use Rattle.session_core.specs.declared.plans.Planned.{Planned}
-use Rattle.session_core.specs.declared.plans.PlansFault.{PlansFault}
-use Rattle.session_core.proofs.Outcomes.{Does-refused}
-use Rattle.session_core.proofs.PlanLoops.{name-states}
+use Rattle.session_core.proofs.ComesTo.{Does-alike, Does-told}
+use Rattle.session_data.specs.Planned.{Holds, IsFirstMisfit, IsPrepared, plan_states}
+use Rattle.request_machine.specs.State.{PlanState, SourceState, State, family_of, types_of}
+use Rattle.session_data.specs.declared.plans.Planned.{Planned}
+use Rattle.session_data.specs.declared.plans.PlansFault.{PlansFault}
+use Rattle.session_data.proofs.PlanLoops.{name-states}
 use Rattle.session_core.proofs.Aborted.{All-replaced, AreKept-same, states_are}
 use Rattle.session_core.proofs.Followed.{follow_ok, may_turn}
 use Rattle.session_core.proofs.parts.Parts.follow.Goals as goal
@@ -24,19 +23,6 @@ prepare_all-requires g c =
       types_of sources.committed,
       (family_of sources.committed, (family_of sources.pending, may_turn c.args.self.now c.args.at c.args.changes.now c.as_mut_slice.result.now c.requires c.as_mut_slice.ensures.value)),
     )
-
-pub settle-requires : goal.settle-requires
-settle-requires g c =
-    let sources = c.args.self.now.sources in
-    record {
-      kept = AreKept-same c.args.self.now sources c.prepare_all.new.plans c.requires.kept (c.in-Ok.ensures.states ∙ ap plan_states c.as_mut_slice.ensures.value);
-      plans =
-          All-replaced c.args.self.now sources c.prepare_all.new.plans c.requires.kept (c.in-Ok.ensures.states ∙ ap plan_states c.as_mut_slice.ensures.value)
-          (IsPrepared (types_of sources.committed) (family_of sources.committed) (family_of sources.pending))
-          (c.in-Ok.ensures.ok (types_of sources.committed) (family_of sources.committed) (family_of sources.pending)
-          (may_turn c.args.self.now c.args.at c.args.changes.now c.as_mut_slice.result.now c.requires c.as_mut_slice.ensures.value));
-      turn = c.requires.turn;
-    }
 
 pub abort-requires : goal.abort-requires
 abort-requires g c =
@@ -64,45 +50,69 @@ abort-requires-in-Err-Memory g c =
 
 pub returns-in-Ok : goal.returns-in-Ok
 returns-in-Ok g c =
-    let sources = c.args.self.now.sources in
-    let state = state_of c.args.self.now in
+    let old = c.args.self.now in
+    let sources = old.sources in
+    let state = state_of old in
     let turned : State = record state { sources = sources.pending } in
     let states = c.in-Ok.ensures.states ∙ ap plan_states c.as_mut_slice.ensures.value in
     let prepared = c.in-Ok.ensures.ok (types_of sources.committed) (family_of sources.committed) (family_of sources.pending)
-    (may_turn c.args.self.now c.args.at c.args.changes.now c.as_mut_slice.result.now c.requires c.as_mut_slice.ensures.value) in
-    let there = states_are c.args.self.now sources c.prepare_all.new.plans c.requires.kept states in
+    (may_turn old c.args.at c.args.changes.now c.as_mut_slice.result.now c.requires c.as_mut_slice.ensures.value) in
+    let there = states_are old sources c.prepare_all.new.plans c.requires.kept states in
     let with_plans : List PlanState → List SourceState → State = λ ps ss. record { curator = state.curator; sources = ss; plans = ps } in
-    Does-same c.settle.result (record c.args.self.now { plans = with_items c.args.self.now.plans c.prepare_all.new.plans }) c.args.self.now _ _ c.settle.new.self c.args.reply.now.items c.settle.new.reply.items
-    (ap (λ ps. with_plans ps sources.committed) there)
-    (ap (λ (ps : List PlanState). let outcome : State × Reply = (with_plans ps sources.pending, reply.Records c.args.count) in outcome) there
-    ∙ sym (ap (λ (o : Option Refusal). updated_at None None o state turned c.args.count) (follow_ok c.args.self.now c.prepare_all.new.plans c.requires.turn.types states prepared)))
-    c.settle.ensures
+    record {
+      same = ap (λ ps. with_plans ps sources.committed) there;
+      done = record {
+        ready = record {
+          kept = AreKept-same old sources c.prepare_all.new.plans c.requires.kept states;
+          plans =
+              All-replaced old sources c.prepare_all.new.plans c.requires.kept states
+              (IsPrepared (types_of sources.committed) (family_of sources.committed) (family_of sources.pending)) prepared;
+          turn = c.requires.turn;
+        };
+        leads =
+            ap (λ (ps : List PlanState). let outcome : State × Reply = (with_plans ps sources.pending, reply.Records c.args.count) in outcome) there
+            ∙ sym (ap (λ (o : Option Refusal). updated_at None None o state turned c.args.count) (follow_ok old c.prepare_all.new.plans c.requires.turn.types states prepared));
+      };
+    }
 
 pub returns-in-Err-Range : goal.returns-in-Err-Range
 returns-in-Err-Range g c =
-    let sources = c.args.self.now.sources in
+    let old = c.args.self.now in
+    let sources = old.sources in
     let types = types_of sources.committed in
     let G = family_of sources.pending in
-    let state = state_of c.args.self.now in
+    let state = state_of old in
     let turned : State = record state { sources = sources.pending } in
     let slice = c.as_mut_slice.result.now in
     let states = c.in-Err-Range.ensures.states ∙ ap plan_states c.as_mut_slice.ensures.value in
-    let there = states_are c.args.self.now sources c.prepare_all.new.plans c.requires.kept states in
+    let there = states_are old sources c.prepare_all.new.plans c.requires.kept states in
     let planned = c.index.result.now in
     let why = refusal.Range planned.name c.in-Err-Range.step in
     let first =
     subst (λ (fault : PlansFault). IsFirstMisfit slice types G fault) c.in-Err-Range.field-0-is
-    (c.in-Err-Range.ensures.range types (family_of sources.committed) G (may_turn c.args.self.now c.args.at c.args.changes.now slice c.requires c.as_mut_slice.ensures.value)) in
+    (c.in-Err-Range.ensures.range types (family_of sources.committed) G (may_turn old c.args.at c.args.changes.now slice c.requires c.as_mut_slice.ensures.value)) in
     let named =
-    name-states slice (with_items c.args.self.now.plans c.prepare_all.new.plans).items c.in-Err-Range.place planned (ap plan_states c.as_mut_slice.ensures.value ∙ sym there)
+    name-states slice (with_items old.plans c.prepare_all.new.plans).items c.in-Err-Range.place planned (ap plan_states c.as_mut_slice.ensures.value ∙ sym there)
     ∙ ap (λ (p : Planned). p.name) (sym c.index.ensures) in
     let unfit =
-    ap (λ (ts : List SourceType). first_misfit ts G (plan_states c.args.self.now.plans.items)) c.requires.turn.types
+    ap (λ (ts : List SourceType). first_misfit ts G (plan_states old.plans.items)) c.requires.turn.types
     ∙ ap (λ (ps : List Planned). first_misfit types G (plan_states ps)) (sym c.as_mut_slice.ensures.value)
     ∙ first planned
     ∙ ap (λ (name : List ℕ). Some (refusal.Range name c.in-Err-Range.step)) named in
     let same = c.abort.ensures.state ∙ ap (λ (ps : List PlanState). let s : State = record { curator = state.curator; sources = sources.committed; plans = ps } in s) there in
-    Does-same c.refuse.result c.abort.new.self c.args.self.now (state_of c.abort.new.self, reply.Refused why) _ c.abort.new.self c.args.reply.now.items c.refuse.new.reply.items same
+    let new = c.abort.new.self in
+    let told = c.refused in
+    Does-alike (Ok told.result) new old new (state_of new, reply.Refused why) _ same
     (ap (λ (s : State). let outcome : State × Reply = (s, reply.Refused why) in outcome) same
     ∙ sym (ap (λ (o : Option Refusal). updated_at None None o state turned c.args.count) unfit))
-    (Does-refused c.refuse.result c.abort.new.self (state_of c.abort.new.self, reply.Refused why) why c.args.reply.now.items c.refuse.new.reply.items c.abort.ensures.settled refl c.refuse.ensures.ok c.refuse.ensures.err)
+    (Does-told new told.result (reply.Refused why) (state_of new, reply.Refused why) c.abort.ensures.settled told.ensures.reply told.ensures.effect refl)
+
+pub returns-in-Err-Memory : goal.returns-in-Err-Memory
+returns-in-Err-Memory g c =
+    let old = c.args.self.now in
+    let states = c.in-Err-Memory.ensures.states ∙ ap plan_states c.as_mut_slice.ensures.value in
+    let there = states_are old old.sources c.prepare_all.new.plans c.requires.kept states in
+    record {
+      same = c.abort-in-Err-Memory.ensures.state ∙ ap (λ (ps : List PlanState). let s : State = record { curator = old.curator; sources = old.sources.committed; plans = ps } in s) there;
+      done = c.abort-in-Err-Memory.ensures.settled;
+    }

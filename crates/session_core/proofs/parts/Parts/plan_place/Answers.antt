@@ -1,8 +1,8 @@
 use Rattle.std.proofs.Common.{◌∙◌, ap, position}
 use Rattle.record_text.specs.Names.{name_eq}
-use Rattle.session_core.specs.Named.{plan_name}
-use Rattle.session_core.specs.Planned.{plan_states}
-use Rattle.session_core.proofs.Named.{position-names}
+use Rattle.request_machine.specs.Named.{plan_name}
+use Rattle.session_data.specs.Planned.{plan_states}
+use Rattle.request_machine.proofs.Named.{position-names}
 use Rattle.session_core.proofs.parts.Parts.plan_place.Goals as goal
 
 pub returns : goal.returns

@@ -8,8 +8,8 @@ abbrev pub invariant-loop-len : goal.invariant-loop-len
 invariant-loop-len g l = record {
   within : l.start ≤ length l.piece;
   served : (line : List ℕ) → l.initial.begun ≡ kept_of line → Served
-      (responding l.initial.self (g.K.Sink.written l.initial.out) (g.N.Noise.given l.initial.noise))
-      (responding l.self (g.K.Sink.written l.out) (g.N.Noise.given l.noise))
+      (responding l.initial.self (g.K.Sink.written l.initial.out) (g.N.Noise.given l.initial.noise) (g.N.Noise.faults l.initial.noise))
+      (responding l.self (g.K.Sink.written l.out) (g.N.Noise.given l.noise) (g.N.Noise.faults l.noise))
       (whole_lines line (take l.start l.piece)) true;
   begun : (line : List ℕ) → l.initial.begun ≡ kept_of line → l.begun ≡ kept_of (open_line line (take l.start l.piece));
   later : g.K.Sink.faults l.initial.out ≤ g.K.Sink.faults l.out;

@@ -1,0 +1,18 @@
+-- Both engines begin without rows.
+use Rattle.std.proofs.Common.{ap, ◌∙◌}
+use Rattle.op_groupby.specs.Group.{GroupParts}
+use Rattle.operator_tests.proofs.Empty.{group_fits-empty, takes-one}
+use Rattle.operator_tests.proofs.Trials.{Serves-start}
+use Rattle.operator_tests.proofs.joined_grouped.group.Goals as goal
+
+pub follow_both-requires-clause-whole : goal.follow_both-requires-clause-whole
+follow_both-requires-clause-whole g c =
+    let engine = c.new-whole.result in
+    let is = ap (λ (op : GroupParts). op.cols) (c.new-whole.ensures.op ∙ c.new-group.ensures) ∙ c.two_ints.ensures in
+    Serves-start _ engine c.new-whole.ensures.idle c.new-whole.ensures.stands (group_fits-empty engine.op) (λ C D left right. takes-one engine.op.cols is C left)
+
+pub follow_both-requires-clause-keyed : goal.follow_both-requires-clause-keyed
+follow_both-requires-clause-keyed g c =
+    let engine = c.new-keyed.result in
+    let is = ap (λ (op : GroupParts). op.cols) (c.new-keyed.ensures.op ∙ c.new-other.ensures) ∙ c.two_ints-2.ensures in
+    Serves-start _ engine c.new-keyed.ensures.idle c.new-keyed.ensures.stands (group_fits-empty engine.op) (λ C D left right. takes-one engine.op.cols is C left)

@@ -1,0 +1,7 @@
+pub mod Named
+pub mod Outcomes
+pub mod LookedUp
+pub mod MeasureLemmas
+pub mod QuietReading
+pub mod Quiet
+pub mod MachineLemmas

@@ -1,0 +1,13 @@
+pub mod Limits
+pub mod State
+pub mod Named
+pub mod Sound
+pub mod Charges
+pub mod Declarations
+pub mod Updates
+pub mod LookUps
+pub mod Stages
+pub mod Measures
+pub mod Machine
+pub mod Laws
+pub mod Work

@@ -1,6 +1,0 @@
-use Rattle.session_core.specs.Planned.{Holds, IsSettled}
-use Rattle.session_core.proofs.PlanLoops.{TurnedBefore}
-use Rattle.session_core.proofs.plans.abort_all.Given as goal
-
-abbrev pub invariant-loop-planned : goal.invariant-loop-planned
-invariant-loop-planned l = TurnedBefore (λ types F G. Holds types F) (λ types F G. IsSettled types F) l.initial.plans l.plans l.planned-index

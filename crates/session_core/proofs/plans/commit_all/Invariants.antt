@@ -1,6 +1,0 @@
-use Rattle.session_core.specs.Planned.{IsPrepared, IsSettled}
-use Rattle.session_core.proofs.PlanLoops.{TurnedBefore}
-use Rattle.session_core.proofs.plans.commit_all.Given as goal
-
-abbrev pub invariant-loop-planned : goal.invariant-loop-planned
-invariant-loop-planned l = TurnedBefore IsPrepared (λ types F G. IsSettled types G) l.initial.plans l.plans l.planned-index

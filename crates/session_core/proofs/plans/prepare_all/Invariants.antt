@@ -1,5 +1,0 @@
-use Rattle.session_core.proofs.PlanLoops.{PreparedBefore}
-use Rattle.session_core.proofs.plans.prepare_all.Given as goal
-
-abbrev pub invariant-loop-at : goal.invariant-loop-at
-invariant-loop-at g l = PreparedBefore l.source l.changes l.initial.plans l.plans l.at

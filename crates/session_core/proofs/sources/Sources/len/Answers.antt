@@ -1,8 +1,0 @@
-use Rattle.std.proofs.Common.{arith, sym}
-use Rattle.session_core.proofs.HeldLemmas.{length-held}
-use Rattle.session_core.proofs.sources.Sources.len.Goals as goal
-
-pub returns : goal.returns
-returns c =
-    let alike = c.self.invariant.0 in
-    rw (sym c.self.view_is) (omega (arith, c.self.inside.budgets.ok.0, c.len.ensures, alike.budgets, length-held _ c.self.inside.types c.self.inside.sets c.self.inside.budgets.items alike))

@@ -1,6 +1,0 @@
-use Rattle.weighted_set.specs.Held.{HeldDatasets}
-use Rattle.session_core.proofs.HeldLemmas.{SettledBefore}
-use Rattle.session_core.proofs.sources.abort_sets.Given as goal
-
-abbrev pub invariant-loop-at : goal.invariant-loop-at
-invariant-loop-at l = SettledBefore (λ (set : HeldDatasets). set.committed) l.initial.sets l.sets l.at

@@ -1,0 +1,11 @@
+pub mod SourceLemmas
+pub mod Typed
+pub mod Turned
+pub mod HeldLemmas
+pub mod BookLemmas
+pub mod UsedLemmas
+pub mod PlanSteps
+pub mod PlanLoops
+pub mod FirstSources
+pub mod Becoming
+pub mod Misfits

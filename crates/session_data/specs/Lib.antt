@@ -1,0 +1,4 @@
+pub mod Flow
+pub mod FlowFaults
+pub mod Held
+pub mod Planned
