@@ -4,8 +4,9 @@
     bench/keys.py [PROGRAM]
 
 PROGRAM is the built program. Without it, the script ./wpinq of this repository is run, which builds the
-program first. Each line is one run: a source gets its rows in one update, a plan is declared on it, and then 500
-updates of one record each, of rows all over the source, are timed from the first that is sent to the last reply.
+program first. Each line is one run: a source gets its rows in one update, and a plan is declared on it. The first
+change afterwards gives back the memory that the plan was built in, so 50 changes go before. Then 500 updates of one
+record each, of rows all over the source, are timed from the first that is sent to the last reply.
 """
 
 import json
@@ -15,6 +16,7 @@ import subprocess
 import sys
 import time
 
+UNTIMED = 50
 CHANGES = 500
 MAX_INPUT = 1_048_576  # the most bytes that one run of the program takes
 
@@ -72,15 +74,17 @@ def time_changes(program, steps, size, held):
     chosen = random.Random(held)
     start = [request(op="source", name=name, kinds=["int"], signed=False, budget=0) for name in ("a", "b")]
     start.append(update("a", range(held)))
-    start.append(update("b", range(held // size)))
+    if steps is join_with_one:
+        start.append(update("b", range(held // size)))
     whole = [{"do": "source", "name": "a"}] + steps(size)
     start.append(request(op="plan", name="p", plan={"format": 1, "steps": whole}))
-    changes = [update("a", [chosen.randrange(held)]) for _ in range(CHANGES)]
+    changes = [update("a", [chosen.randrange(held)]) for _ in range(UNTIMED + CHANGES)]
     assert sum(map(len, start + changes)) <= MAX_INPUT
     with subprocess.Popen([program], stdin=subprocess.PIPE, stdout=subprocess.PIPE) as server:
         ask(server, start)
+        ask(server, changes[:UNTIMED])
         begun = time.perf_counter()
-        ask(server, changes)
+        ask(server, changes[UNTIMED:])
         return time.perf_counter() - begun
 
 
