@@ -52,6 +52,7 @@ impl Responder {
         ensures served { Served (responding self.old (K.written out.old) (N.given noise.old) (N.faults noise.old))
             (responding self.new (K.written out.new) (N.given noise.new) (N.faults noise.new)) (line.now ∷ []) (is_ok result) }
         ensures cause { HasCause (K.faults out.old) (K.faults out.new) result }
+        ensures shelf { F.faults shelf.new ≡ F.faults shelf.old }
         ensures lines { self.new.lines ≤ self.old.lines + 1 }
     {
         if line.is_empty() {
@@ -84,6 +85,7 @@ impl Responder {
         ensures begun { (line : List ℕ) → begun.old ≡ kept_of line
             → OnOk result (begun.new ≡ kept_of (open_line line piece.now)) }
         ensures cause { HasCause (K.faults out.old) (K.faults out.new) result }
+        ensures shelf { F.faults shelf.new ≡ F.faults shelf.old }
         ensures lines { self.new.lines ≤ self.old.lines + length piece.now }
     {
         let mut start = 0;
@@ -112,6 +114,7 @@ impl Responder {
             (responding self.old (K.written out.old) (N.given noise.old) (N.faults noise.old))
             (responding self.new (K.written out.new) (N.given noise.new) (N.faults noise.new)) (last_line line) (is_ok result) }
         ensures cause { HasCause (K.faults out.old) (K.faults out.new) result }
+        ensures shelf { F.faults shelf.new ≡ F.faults shelf.old }
     {
         if begun.is_empty() {
             return Ok(());

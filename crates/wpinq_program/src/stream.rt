@@ -34,6 +34,7 @@ pub fn serve_stream<S: Source, K: Sink, N: Noise, F: Shelf, L: Ledger>(
         (responding responder.new (K.written out.new) (N.given noise.new) (N.faults noise.new)) begun.new result }
     ensures lines { responder.new.lines ≤ max }
     ensures later { K.faults out.old ≤ K.faults out.new }
+    ensures shelf { F.faults shelf.new ≡ F.faults shelf.old }
     ensures read_fault { result ≡ Stop.ReadFault → Rose (S.faults src.old) (S.faults src.new) }
     ensures write_fault { result ≡ Stop.WriteFault → Rose (K.faults out.old) (K.faults out.new) }
 {

@@ -61,6 +61,9 @@ pub fn wpinq<S: Source, K: Sink, N: Noise, F: Shelf>(
     ensures read_fault { result.status ≡ 3 → Rose (S.faults src.old) (S.faults src.new) }
     ensures write_fault { result.status ≡ 4 → Rose (K.faults out.old) (K.faults out.new) }
 
+    // No reply is for a fault of the shelf, whose count stays: no request reads a file.
+    ensures shelf { F.faults shelf.new ≡ F.faults shelf.old }
+
     // Without a fault an input within the limit is answered to its end, unless there was no memory at the start.
     ensures complete { flag_of words.now ≢ None → ¬ Rose (S.faults src.old) (S.faults src.new)
         → ¬ Rose (K.faults out.old) (K.faults out.new) → IsComplete max_bytes (S.left src.old) result.status }
@@ -129,6 +132,7 @@ fn run<L: Ledger, S: Source, K: Sink, N: Noise, F: Shelf>(
     ensures words { result.status ≢ 2 }
     ensures read_fault { result.status ≡ 3 → Rose (S.faults src.old) (S.faults src.new) }
     ensures write_fault { result.status ≡ 4 → Rose (K.faults out.old) (K.faults out.new) }
+    ensures shelf { F.faults shelf.new ≡ F.faults shelf.old }
 {
     let mut steps: Steps<L> = Steps::new(blank);
     let stop = serve_stream(

@@ -1,4 +1,4 @@
-use Rattle.std.proofs.Common.{◌≡◌, [], length, take, arith}
+use Rattle.std.proofs.Common.{◌≡◌, ◌∙◌, [], length, refl, take, arith}
 use Rattle.std.proofs.lemmas.List.{length-take-le}
 use Rattle.line_runs.specs.Lines.{open_line}
 use Rattle.wpinq_program.proofs.EndLemmas.{Streaming-start, Streaming-more, Streamed-cut}
@@ -8,6 +8,7 @@ pub loop-total-init : goal.loop-total-init
 loop-total-init g c = record {
   within = omega arith;
   streaming = rw c.requires.begun (Streaming-start _ _);
+  shelf = refl;
   lines = omega arith;
   read = omega arith;
   written = omega arith;
@@ -33,6 +34,7 @@ loop-total-preserved g c =
       within = omega (arith, c.in-Ok.ensures.most);
       streaming = Streaming-more c.loop-total.total count _ _ _ _ _ _ c.loop-total.begun _ (take count piece) s c.in-Ok.ensures.bytes.0 len
           (e.served (open_line [] s.taken) s.line) (e.begun (open_line [] s.taken) s.line);
+      shelf = c.serve_piece.ensures.shelf ∙ c.loop-total.invariant.shelf;
       lines = omega (arith, c.serve_piece.ensures.lines, len);
       read = omega arith;
       written = omega arith;

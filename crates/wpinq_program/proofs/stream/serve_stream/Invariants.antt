@@ -1,4 +1,4 @@
-use Rattle.std.proofs.Common.{◌≤◌, ◌-◌}
+use Rattle.std.proofs.Common.{◌≡◌, ◌≤◌, ◌-◌}
 use Rattle.wpinq_program.specs.Outcome.{Streaming}
 use Rattle.wpinq_program.specs.Served.{responding}
 use Rattle.wpinq_program.proofs.stream.serve_stream.Given as goal
@@ -10,6 +10,7 @@ invariant-loop-total g l = record {
       (responding l.initial.responder (g.K.Sink.written l.initial.out) (g.N.Noise.given l.initial.noise) (g.N.Noise.faults l.initial.noise))
       (responding l.responder (g.K.Sink.written l.out) (g.N.Noise.given l.noise) (g.N.Noise.faults l.noise))
       l.begun;
+  shelf : g.F.Shelf.faults l.shelf ≡ g.F.Shelf.faults l.initial.shelf;
   lines : l.responder.lines ≤ l.total;
   read : g.S.Source.faults l.initial.src ≤ g.S.Source.faults l.src;
   written : g.K.Sink.faults l.initial.out ≤ g.K.Sink.faults l.out;

@@ -1,4 +1,4 @@
-use Rattle.std.proofs.Common.{◌++◌, ◌∙◌, ap, take, drop, arith}
+use Rattle.std.proofs.Common.{◌++◌, ◌∙◌, ap, refl, take, drop, arith}
 use Rattle.std.proofs.lemmas.List.{take_rest}
 use Rattle.std.proofs.lemmas.Result.{err_from_is_err_and}
 use Rattle.line_runs.specs.Lines.{whole_lines, open_line}
@@ -15,6 +15,7 @@ loop-len-init g c = record {
   served = λ line k. Served-none _;
   begun = λ line k. k;
   later = omega arith;
+  shelf = refl;
   lines = omega arith;
 }
 
@@ -42,6 +43,7 @@ loop-len-preserved g c =
       served = λ line k. Served-next _ _ _ line piece c.loop-len.begun _ start len _ s (inv.begun line k) kept (inv.served line k) (rw c.line.ensures at c.in_ok-serve.ensures.served);
       begun = λ line k. rw (open_line-next line piece start len s, c.clear.ensures) kept-nil;
       later = omega arith;
+      shelf = c.serve.ensures.shelf ∙ inv.shelf;
       lines = omega arith;
     }
 

@@ -13,6 +13,7 @@ invariant-loop-len g l = record {
       (whole_lines line (take l.start l.piece)) true;
   begun : (line : List ℕ) → l.initial.begun ≡ kept_of line → l.begun ≡ kept_of (open_line line (take l.start l.piece));
   later : g.K.Sink.faults l.initial.out ≤ g.K.Sink.faults l.out;
+  shelf : g.F.Shelf.faults l.shelf ≡ g.F.Shelf.faults l.initial.shelf;
   lines : l.self.lines ≤ l.initial.self.lines + l.start;
 }
 
