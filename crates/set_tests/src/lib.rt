@@ -5,6 +5,8 @@
 #[cfg(test)]
 mod apart;
 #[cfg(test)]
+mod comparers;
+#[cfg(test)]
 mod sets;
 #[cfg(test)]
 mod stores;
