@@ -12,7 +12,7 @@ use Rattle.weighted_set.specs.Standing.{MayBecome, Meaning, Standing}
 use Rattle.weighted_set.specs.declared.weighted.Change.{Change}
 use Rattle.trial_rows.proofs.ChangedColumns.{HasColumns-applied}
 use Rattle.trial_rows.specs.Columns.{two_ints}
-use Rattle.operator_tests.specs.Trials.{Serves}
+use Rattle.engine_tests.specs.Trials.{Serves}
 
 module _ {E : Type 0} (of : E → Standing) (engine : E) (A B : Dataset) (left right : List Change) (serves : Serves of engine A B) where
   module _ (left_rows : All (λ (c : Change). kinds_of c.row ≡ two_ints) left) (right_rows : All (λ (c : Change). kinds_of c.row ≡ two_ints) right) where

@@ -1,9 +1,8 @@
 //! Each operator in both engines, which list the same changes as the inputs of either side change.
 ghost use Rattle.std.specs.Prelude.{◌≡◌, ◌<◌};
 ghost use Rattle.datasets.specs.Dataset.{empty};
-ghost use Rattle.operator_tests.specs.Trials.{Serves};
+ghost use Rattle.engine_tests.specs.Trials.{Serves};
 
-use crate::parts::{one_item, two_pieces};
 use crate::turns::{Turn, follow_all};
 use engines::{Keyed, Whole};
 use op_linear::{FilterOp, ManyOp, SelectOp};
@@ -15,7 +14,9 @@ use std::marker::Brand;
 use std::process::Abort;
 use std::sync::ledger::{Blank, Ledger};
 use steps::Steps;
-use trial_rows::{Added, MOST, Shown, only_second_column, second_column, two_ints};
+use trial_rows::{
+    Added, MOST, Shown, one_item, only_second_column, second_column, two_ints, two_pieces,
+};
 use weighted_set::{AddFault, Operator};
 
 /// Takes two engines of one operator through the same turns.

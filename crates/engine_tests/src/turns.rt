@@ -5,7 +5,7 @@ ghost use Rattle.record_text.specs.KindLists.{kinds_of};
 ghost use Rattle.weighted_set.specs.Adding.{AreChangesOfAdding};
 ghost use Rattle.weighted_set.specs.Changes.{AreChangesOf, applied};
 ghost use Rattle.trial_rows.specs.Columns.{two_ints};
-ghost use Rattle.operator_tests.specs.Trials.{Serves};
+ghost use Rattle.engine_tests.specs.Trials.{Serves};
 
 use std::alloc::Global;
 use std::process::Abort;

@@ -1,4 +1,2 @@
 pub mod ListedParts
 pub mod GroupedParts
-pub mod Empty
-pub mod Trials

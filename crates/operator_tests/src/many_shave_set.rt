@@ -4,7 +4,6 @@ ghost use Rattle.trial_rows.specs.Columns.{two_ints};
 ghost use Rattle.weighted_set.specs.Parts.{IsListed};
 
 use crate::linear::part;
-use crate::parts::{one_item, two_pieces};
 use op_linear::ManyOp;
 use op_setwise::SetOp;
 use op_shave::ShaveOp;
@@ -14,7 +13,7 @@ use std::marker::Brand;
 use std::process::Abort;
 use std::sync::ledger::{Blank, Ledger};
 use steps::Steps;
-use trial_rows::{only_second_column, pair, row, two_ints};
+use trial_rows::{one_item, only_second_column, pair, row, two_ints, two_pieces};
 use weighted_set::{Memory, OpFault, PartOp, Side, Weighted};
 
 // The numerator and the denominator of the weight of the first row, of 0 where there is none.

@@ -1,9 +1,7 @@
-//! Tests of the crates of plans: of what no contract says, that calls succeed, and that the definitions say what
-//! is meant.
+//! Tests of expressions and plans, and of their texts: of what no contract says, that calls succeed, and that the
+//! definitions say what is meant.
 #![tactic(auto)]
 
-#[cfg(test)]
-mod checker;
 #[cfg(test)]
 mod model;
 #[cfg(test)]

@@ -6,10 +6,10 @@ ghost use Rattle.plan_model.specs.Limits.{is_item, is_run};
 ghost use Rattle.plan_model.specs.Pieces.{piece_count};
 ghost use Rattle.trial_rows.specs.Columns.{two_ints};
 
+use crate::only_second_column;
 use frac_core::Frac;
 use plan_model::{Item, Items, Run, Runs};
 use std::alloc::Global;
-use trial_rows::only_second_column;
 use weighted_set::Memory;
 
 /// Two pieces of 1.

@@ -1,7 +1,7 @@
 use Rattle.std.proofs.Common.{◌≡◌, ◌∙◌, ap, arith, length}
 use Rattle.std.proofs.lemmas.List.FromFn.{length-map-range_with_len}
 use Rattle.plan_model.specs.Uses.{uses}
-use Rattle.plan_tests.proofs.checker.uses_of.Goals as goal
+use Rattle.checker_tests.proofs.checker.uses_of.Goals as goal
 
 pub uses-requires : goal.uses-requires
 uses-requires c =

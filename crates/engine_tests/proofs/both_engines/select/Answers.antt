@@ -1,9 +1,9 @@
 -- Both engines begin without rows.
 use Rattle.std.proofs.Common.{ap, ◌∙◌}
 use Rattle.op_linear.specs.Select.{SelectParts}
-use Rattle.operator_tests.proofs.Empty.{select_fits-empty, takes-one}
-use Rattle.operator_tests.proofs.Trials.{Serves-start}
-use Rattle.operator_tests.proofs.both_engines.select.Goals as goal
+use Rattle.engine_tests.proofs.Empty.{select_fits-empty, takes-one}
+use Rattle.engine_tests.proofs.Trials.{Serves-start}
+use Rattle.engine_tests.proofs.both_engines.select.Goals as goal
 
 pub follow_both-requires-clause-whole : goal.follow_both-requires-clause-whole
 follow_both-requires-clause-whole g c =

@@ -1,9 +1,9 @@
 -- Both engines begin without rows.
 use Rattle.std.proofs.Common.{ap, ◌∙◌}
 use Rattle.op_setwise.specs.Setwise.{SetParts}
-use Rattle.operator_tests.proofs.Empty.{set_fits-empty, takes-both}
-use Rattle.operator_tests.proofs.Trials.{Serves-start}
-use Rattle.operator_tests.proofs.both_engines.set.Goals as goal
+use Rattle.engine_tests.proofs.Empty.{set_fits-empty, takes-both}
+use Rattle.engine_tests.proofs.Trials.{Serves-start}
+use Rattle.engine_tests.proofs.both_engines.set.Goals as goal
 
 pub follow_both-requires-clause-whole : goal.follow_both-requires-clause-whole
 follow_both-requires-clause-whole g c =

@@ -2,9 +2,9 @@
 use Rattle.std.proofs.Common.{ap, ◌∙◌}
 use Rattle.op_shave.specs.Shave.{ShaveParts}
 use Rattle.plan_model.specs.Evaluation.{pieces}
-use Rattle.operator_tests.proofs.Empty.{shave_fits-empty, takes-one}
-use Rattle.operator_tests.proofs.Trials.{Serves-start}
-use Rattle.operator_tests.proofs.both_engines.shave.Goals as goal
+use Rattle.engine_tests.proofs.Empty.{shave_fits-empty, takes-one}
+use Rattle.engine_tests.proofs.Trials.{Serves-start}
+use Rattle.engine_tests.proofs.both_engines.shave.Goals as goal
 
 pub follow_both-requires-clause-whole : goal.follow_both-requires-clause-whole
 follow_both-requires-clause-whole g c =

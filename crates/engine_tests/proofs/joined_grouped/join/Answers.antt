@@ -1,9 +1,9 @@
 -- Both engines begin without rows.
 use Rattle.std.proofs.Common.{ap, ◌∙◌}
 use Rattle.op_join.specs.Join.{JoinParts}
-use Rattle.operator_tests.proofs.Empty.{join_fits-empty, takes-sides}
-use Rattle.operator_tests.proofs.Trials.{Serves-start}
-use Rattle.operator_tests.proofs.joined_grouped.join.Goals as goal
+use Rattle.engine_tests.proofs.Empty.{join_fits-empty, takes-sides}
+use Rattle.engine_tests.proofs.Trials.{Serves-start}
+use Rattle.engine_tests.proofs.joined_grouped.join.Goals as goal
 
 pub follow_both-requires-clause-whole : goal.follow_both-requires-clause-whole
 follow_both-requires-clause-whole g c =

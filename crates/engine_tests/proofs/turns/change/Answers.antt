@@ -1,8 +1,8 @@
 -- The engine may be asked for the changes, and it serves what is committed then.
 use Rattle.std.proofs.Common.{◌∙◌}
 use Rattle.weighted_set.specs.Changes.{applied}
-use Rattle.operator_tests.proofs.Trials.{MayBecome-served, Serves-settled, left_applied, right_applied}
-use Rattle.operator_tests.proofs.turns.change.Goals as goal
+use Rattle.engine_tests.proofs.Trials.{MayBecome-served, Serves-settled, left_applied, right_applied}
+use Rattle.engine_tests.proofs.turns.change.Goals as goal
 
 pub prepare-requires-clause-inputs : goal.prepare-requires-clause-inputs
 prepare-requires-clause-inputs g c =

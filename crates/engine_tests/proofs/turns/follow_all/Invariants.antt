@@ -1,6 +1,6 @@
 use Rattle.std.proofs.Common.{◌≡◌}
-use Rattle.operator_tests.specs.Trials.{Serves}
-use Rattle.operator_tests.proofs.turns.follow_all.Given as goal
+use Rattle.engine_tests.specs.Trials.{Serves}
+use Rattle.engine_tests.proofs.turns.follow_all.Given as goal
 
 abbrev pub invariant-loop-turn : goal.invariant-loop-turn
 invariant-loop-turn g l =

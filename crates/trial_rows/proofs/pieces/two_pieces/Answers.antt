@@ -5,7 +5,7 @@ use Rattle.std.proofs.Common.{ap, ◌∙◌}
 use Rattle.ratios.specs.Ratio.{Ratio, one_ratio, zero_ratio}
 use Rattle.plan_model.specs.Limits.{is_run}
 use Rattle.plan_model.specs.declared.step.Run.{Run}
-use Rattle.operator_tests.proofs.parts.two_pieces.Goals as goal
+use Rattle.trial_rows.proofs.pieces.two_pieces.Goals as goal
 
 abbrev piece : Ratio → Run
 piece w = record { weight = w; times = 2 }

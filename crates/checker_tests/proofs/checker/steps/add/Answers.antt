@@ -3,8 +3,8 @@ use Rattle.std.specs.List.{list_all}
 use Rattle.std.proofs.lemmas.Bool.{and_from}
 use Rattle.std.proofs.lemmas.List.Folds.{list_all-append}
 use Rattle.plan_model.specs.Limits.{are_steps, has_sizes, is_step}
-use Rattle.plan_tests.proofs.Steps.{are_steps_more}
-use Rattle.plan_tests.proofs.checker.steps.add.Goals as goal
+use Rattle.checker_tests.proofs.Steps.{are_steps_more}
+use Rattle.checker_tests.proofs.checker.steps.add.Goals as goal
 
 pub returns-clause-steps : goal.returns-clause-steps
 returns-clause-steps c =

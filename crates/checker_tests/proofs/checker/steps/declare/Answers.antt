@@ -3,7 +3,7 @@ use Rattle.std.proofs.Common.{ap, sym, ◌∙◌}
 use Rattle.record_text.specs.Names.{name_eq}
 use Rattle.plan_model.specs.declared.source_types.SourceType.{SourceType}
 use Rattle.plan_checker.proofs.Positions.{is_some-position}
-use Rattle.plan_tests.proofs.checker.steps.declare.Goals as goal
+use Rattle.checker_tests.proofs.checker.steps.declare.Goals as goal
 
 pub push-requires : goal.push-requires
 push-requires c =

@@ -1,7 +1,7 @@
 use Rattle.std.proofs.Common.{◌≡◌, ◌+◌, length, true}
 use Rattle.std.specs.List.{list_all}
 use Rattle.plan_model.specs.Limits.{are_steps, has_sizes}
-use Rattle.plan_tests.proofs.checker.steps.plan_of.Given as goal
+use Rattle.checker_tests.proofs.checker.steps.plan_of.Given as goal
 
 abbrev pub invariant-loop-of : goal.invariant-loop-of
 invariant-loop-of l = record {

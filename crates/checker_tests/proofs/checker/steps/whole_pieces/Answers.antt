@@ -1,7 +1,7 @@
 use Rattle.std.proofs.Common.{ap}
 use Rattle.ratios.specs.Ratio.{Ratio, one_ratio, zero_ratio}
 use Rattle.plan_model.specs.Limits.{is_run}
-use Rattle.plan_tests.proofs.checker.steps.whole_pieces.Goals as goal
+use Rattle.checker_tests.proofs.checker.steps.whole_pieces.Goals as goal
 
 pub returns-clause-run : goal.returns-clause-run
 unfolding one_ratio zero_ratio
