@@ -4,6 +4,8 @@
 #[cfg(test)]
 mod budgets;
 #[cfg(test)]
+mod demo;
+#[cfg(test)]
 mod devices;
 #[cfg(test)]
 mod fields;
