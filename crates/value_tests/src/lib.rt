@@ -1,4 +1,4 @@
-//! Tests of the crates of values, texts and devices.
+//! Tests of the crates of values, texts, devices and words.
 #![tactic(auto)]
 
 #[cfg(test)]
@@ -19,3 +19,5 @@ mod orders;
 mod primitives;
 #[cfg(test)]
 mod rows;
+#[cfg(test)]
+mod words;
