@@ -1,1 +1,4 @@
+pub mod FileLemmas
 pub mod KnownLemmas
+pub mod PathBytes
+pub mod PathTests

@@ -1,5 +1,5 @@
 -- Files by their paths, and what a shelf gives of them.
-use Rattle.std.specs.Prelude.{◌≡◌, ℕ, ◌+◌, ◌≤◌, List, [], ◌++◌, length, nat_eq, Option, None, Some, IfSome, Result, Ok, Err}
+use Rattle.std.specs.Prelude.{◌≡◌, ℕ, ◌+◌, ◌≤◌, List, [], ◌∷◌, ◌++◌, filter, length, nat_eq, not, Option, None, Some, IfSome, Result, Ok, Err}
 use Rattle.std.specs.Cmp.Lexicographic.{pointwise}
 use Rattle.std.specs.Map.{lookup}
 use Rattle.io_edge.specs.declared.shelf_fault.ShelfFault.{ShelfFault}
@@ -12,6 +12,10 @@ Files = List ((List ℕ) × (List ℕ))
 -- the bytes of the file at the path, which is the first of that path
 abbrev pub file_at : Files → List ℕ → Option (List ℕ)
 file_at files path = lookup (λ name. pointwise nat_eq name path) files
+
+-- the files at other paths, and then one with these bytes at the path
+abbrev pub with_file : Files → List ℕ → List ℕ → Files
+with_file files path bytes = filter (λ file. not (pointwise nat_eq file.0 path)) files ++ (path, bytes) ∷ []
 
 -- What a fetch leaves in its buffer, by its answer:
 -- a file of at most max bytes, the first max + 1 bytes of a longer one, and else nothing.

@@ -4,10 +4,10 @@
 //! say of a device is optional: `None` says nothing, and stays `None`.
 #![tactic(auto)]
 
-ghost use Rattle.std.specs.Prelude.{◌≡◌, ◌<◌, ◌≤◌, ℕ, ℤ, List, Option, IfOk, length};
+ghost use Rattle.std.specs.Prelude.{◌≡◌, ◌<◌, ◌≤◌, ℕ, ℤ, List, Option, IfOk, IsTrue, length};
 ghost use Rattle.io_edge.specs.Causes.{HasCause, ShelfHasCause};
 ghost use Rattle.io_edge.specs.Limits.{fetch_limit, max_epsilon};
-ghost use Rattle.io_edge.specs.Path.{IsPath};
+ghost use Rattle.io_edge.specs.Path.{is_path};
 ghost use Rattle.io_edge.specs.Shelf.{Files, FetchOutcome};
 ghost use Rattle.io_edge.specs.Known.{ReadOutcome, WriteOutcome, DrawOutcome};
 
@@ -72,7 +72,7 @@ pub trait Shelf {
     /// Puts the file at `path` into `into`, which it empties first: the whole file, or one byte more than `max` of a
     /// longer one.
     fn fetch(&mut self, path: &[u8], max: usize, into: &mut Vec<u8>) -> Result<(), ShelfFault>
-        requires path { IsPath path.now }
+        requires path { IsTrue (is_path path.now) }
         requires max { max < fetch_limit }
         ensures gives { FetchOutcome (files self.old) path.now max result into.new.items }
         ensures kept { files self.new ≡ files self.old }

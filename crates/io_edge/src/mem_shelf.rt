@@ -1,9 +1,10 @@
-ghost use Rattle.std.specs.Prelude.{◌≡◌, ◌≢◌, ◌+◌, ◌<◌, ◌↔◌, [], map, MatchOption, Some, None, Err, IsSome, Contains};
+ghost use Rattle.std.specs.Prelude.{◌≡◌, ◌≢◌, ◌+◌, ◌<◌, ◌≤◌, ◌↔◌, ◌++◌, ◌∷◌, [], List, ℕ, filter, map, nat_eq, not, vec_capacity, vec_len, MatchOption, Some, None, Err, IsSome, OnOk, OnErr, Contains};
+ghost use Rattle.std.specs.Cmp.Lexicographic.{pointwise};
 ghost use Rattle.io_edge.specs.Causes.{ShelfHasCause, capped};
 ghost use Rattle.io_edge.specs.Limits.{fetch_limit};
-ghost use Rattle.io_edge.specs.Shelf.{FetchOutcome, file_at};
+ghost use Rattle.io_edge.specs.Shelf.{FetchOutcome, file_at, with_file};
 
-use crate::{Shelf, ShelfFault};
+use crate::{Memory, Shelf, ShelfFault};
 use std::alloc::Global;
 use std::marker::Model;
 
@@ -49,6 +50,48 @@ impl MemShelf {
             faults: 0,
         }
     }
+
+    /// Puts a file with these bytes at the path, in place of one that is there.
+    pub fn put(&mut self, path: &[u8], bytes: Vec<u8>) -> Result<(), Memory>
+        ensures ok { OnOk result (self.new
+            ≡ record self.old { files = with_file self.old.files path.now bytes.items }) }
+        ensures here { OnOk result (file_at self.new.files path.now ≡ Some bytes.items) }
+        ensures others { OnOk result ((other : List ℕ) → other ≢ path.now
+            → file_at self.new.files other ≡ file_at self.old.files other) }
+        ensures err { OnErr result (self.new ≡ self.old) }
+    {
+        let alloc = *self.files.allocator();
+        let copy = path.to_vec(alloc)?;
+        self.files.reserve(1)?;
+        remove(&mut self.files, path);
+        self.files.push(File { path: copy, bytes }).unwrap();
+        Ok(())
+    }
+
+    /// Lets the call with this number, from 0, fail.
+    pub fn fail_at(&mut self, call: u64) -> Result<(), Memory>
+        ensures ok { OnOk result (self.new ≡ record self.old { fails = self.old.fails ++ call ∷ [] }) }
+        ensures err { OnErr result (self.new ≡ self.old) }
+    {
+        self.fails.push(call)?;
+        Ok(())
+    }
+}
+
+// Takes the files at the path away.
+fn remove(files: &mut Vec<File>, path: &[u8])
+    ensures others { files.new.items
+        ≡ filter (λ file. not (pointwise nat_eq file.path.items path.now)) files.old.items }
+    ensures bound { vec_len files.new ≤ vec_len files.old }
+    ensures capacity { vec_capacity files.new ≡ vec_capacity files.old }
+{
+    files.retain(|file| !is_at(file, path));
+}
+
+fn is_at(file: &File, path: &[u8]) -> bool
+    ensures { result ≡ pointwise nat_eq file.now.path.items path.now }
+{
+    file.path.as_slice() == path
 }
 
 // The bytes of the first file at the path.

@@ -1,11 +1,10 @@
 //! Tests of `io_edge`.
 ghost use Rattle.std.specs.Prelude.{◌<◌, ◌≤◌, length};
-ghost use Rattle.io_edge.specs.Limits.{fetch_limit, max_epsilon};
-ghost use Rattle.io_edge.specs.Path.{IsPath};
+ghost use Rattle.io_edge.specs.Limits.{max_epsilon};
 
 use io_edge::{
-    Failed, MemNoise, MemShelf, MemSink, MemSource, Noise, Shelf, ShelfFault, Sink, Source,
-    StdSink, StdSource, SureNoise, SureSink, SureSource,
+    Failed, FolderShelf, MemNoise, MemShelf, MemSink, MemSource, Noise, Shelf, ShelfFault, Sink,
+    Source, StdSink, StdSource, SureNoise, SureSink, SureSource, is_path, read_up_to,
 };
 use noise_lines::{FileNoise, FileSource, LineNoise};
 use std::test::Fail;
@@ -30,16 +29,18 @@ fn draw<N: Noise>(noise: &mut N, eps: u64) -> Result<i64, Failed>
     noise.draw(eps)
 }
 
+// None where the bytes are no path.
 fn fetch<S: Shelf>(
     shelf: &mut S,
-    path: &[u8],
-    max: usize,
+    path: &str,
+    max: u8,
     into: &mut Vec<u8>,
-) -> Result<(), ShelfFault>
-    requires path { IsPath path.now }
-    requires max { max < fetch_limit }
-{
-    shelf.fetch(path, max, into)
+) -> Option<Result<(), ShelfFault>> {
+    if is_path(path.as_bytes()) {
+        Some(shelf.fetch(path.as_bytes(), usize::from(max), into))
+    } else {
+        None
+    }
 }
 
 #[test]
@@ -139,13 +140,93 @@ fn a_file_that_is_missing_is_a_fault_at_each_draw(rt: HostRuntime) {
 }
 
 #[test]
-fn empty_shelf_misses_a_file(rt: HostRuntime) -> Result<(), Fail> {
+fn shelf_gives_what_was_put_last_at_a_path(rt: HostRuntime) -> Result<(), Fail> {
     let mut shelf = MemShelf::new(rt.alloc());
+    for (path, text) in [("a", "old"), ("b/c.csv", "1,2\n"), ("a", "new")] {
+        shelf.put(path.as_bytes(), text.as_bytes().to_vec(rt.alloc())?)?;
+    }
+    shelf.fail_at(5)?;
+    let rows = [
+        ("a", 3, Some(Ok(())), "new"),
+        ("b/c.csv", 4, Some(Ok(())), "1,2\n"),
+        ("b/c.csv", 3, Some(Err(ShelfFault::Long)), "1,2\n"),
+        ("b/c.csv", 1, Some(Err(ShelfFault::Long)), "1,"),
+        ("b", 9, Some(Err(ShelfFault::Missing)), ""),
+        ("a", 9, Some(Err(ShelfFault::Failed)), ""),
+        ("a", 9, Some(Ok(())), "new"),
+        ("/a", 9, None, "new"),
+    ];
+    let mut into = Vec::new(rt.alloc());
+    for (path, max, answer, left) in rows {
+        assert_eq!(rt; fetch(&mut shelf, path, max, &mut into), answer, "{path}");
+        assert_eq!(rt; into.as_slice(), left.as_bytes(), "{path}");
+    }
+    Ok(())
+}
+
+#[test]
+fn folder_misses_a_file(rt: HostRuntime) -> Result<(), Fail> {
+    let mut shelf = FolderShelf::new(&rt);
     let mut into = b"old".to_vec(rt.alloc())?;
-    let answer = fetch(&mut shelf, b"a", 10, &mut into);
-    assert_eq!(rt; answer, Err(ShelfFault::Missing));
+    let answer = fetch(&mut shelf, "no.such.folder/rows.csv", 10, &mut into);
+    assert_eq!(rt; answer, Some(Err(ShelfFault::Missing)));
     assert_eq!(rt; into.len(), 0);
     Ok(())
+}
+
+#[test]
+fn reader_is_read_to_one_byte_more(rt: HostRuntime) -> Result<(), Fail> {
+    let rows = [
+        ("", 0u8, Ok(()), ""),
+        ("abc", 3, Ok(()), "abc"),
+        ("abcd", 3, Err(ShelfFault::Long), "abcd"),
+        ("abcdef", 3, Err(ShelfFault::Long), "abcd"),
+    ];
+    for (text, max, answer, left) in rows {
+        let mut into = Vec::new(rt.alloc());
+        assert_eq!(rt;
+            read_up_to(text.as_bytes(), usize::from(max), &mut into),
+            answer,
+            "{text}"
+        );
+        assert_eq!(rt; into.as_slice(), left.as_bytes(), "{text}");
+    }
+    Ok(())
+}
+
+#[test]
+fn paths_are_parts_between_slashes(rt: HostRuntime) {
+    let rows = [
+        ("a", true),
+        ("0", true),
+        ("-", true),
+        ("rows.csv", true),
+        ("data/rows-1.csv", true),
+        ("Data/2024/q_1/rows.csv", true),
+        ("a.", true),
+        ("a..b/c", true),
+        ("", false),
+        ("/", false),
+        ("/a", false),
+        ("a/", false),
+        ("a//b", false),
+        (".", false),
+        ("..", false),
+        (".a", false),
+        ("a/.b", false),
+        ("a/../b", false),
+        ("a b", false),
+        ("a\\b", false),
+        ("a\n", false),
+        ("a:b", false),
+        ("\u{e9}", false),
+    ];
+    for (text, expected) in rows {
+        assert_eq!(rt; is_path(text.as_bytes()), expected, "{text}");
+    }
+    let long = [b'a'; 201];
+    assert!(rt; is_path(&long[..200]));
+    assert!(rt; !is_path(&long));
 }
 
 #[test]

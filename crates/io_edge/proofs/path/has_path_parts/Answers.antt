@@ -1,0 +1,14 @@
+use Rattle.std.proofs.Common.{rules, ◌==◌}
+use Rattle.std.proofs.lemmas.Iterator.Search.{all_from_yields_List}
+use Rattle.std.proofs.lemmas.Iterator.Splits.{YieldsList-from_slice_split}
+use Rattle.io_edge.specs.Path.{is_path_part}
+use Rattle.io_edge.proofs.path.has_path_parts.Goals as goal
+
+pub returns : goal.returns
+returns c =
+    all_from_yields_List is_path_part _ _ _ c.all.ensures.ran
+    (
+    YieldsList-from_slice_split _ (λ byte. byte == 47) c.args.path.now c.split.ensures.rest c.split.ensures.done c.split.ensures.closure
+    (λ x b q called. search rules)
+    )
+    (λ x b q called. search rules)
