@@ -2,6 +2,7 @@
 ghost use Rattle.std.specs.Prelude.{◌≤◌};
 
 use demo_input::{demo_questions, demo_setup, demo_text, law_demo};
+use std::alloc::Global;
 use std::str;
 use std::test::Fail;
 
@@ -52,20 +53,35 @@ const LARGE: [(usize, &str); 7] = [
     ),
 ];
 
-#[test]
-fn demos_have_these_lines(rt: HostRuntime) -> Result<(), Fail> {
-    let rows: [(u64, usize, &[(usize, &str)]); 2] = [(1, 1006, &SMALL), (20, 4006, &LARGE)];
-    for (n, count, some) in rows {
-        let mut bytes = Vec::new(rt.alloc());
-        demo_text(n, &mut bytes)?;
-        let lines: Vec<&str> = str::from_utf8(&bytes)?.lines().collect(rt.alloc())?;
-        assert_eq!(rt; lines.len(), count);
-        assert_eq!(rt; lines[..3], *FIRST.as_slice());
-        assert_eq!(rt; lines[count - 3..], *LAST.as_slice());
-        for (at, line) in some {
-            assert_eq!(rt; lines[*at], *line, "{n}: {at}");
+fn stands_at(lines: &[&str], at: usize, line: &str) -> bool {
+    at < lines.len() && lines[at] == line
+}
+
+// The number of a demo's lines, whether it begins and ends with the lines above, and one of some others that isn't at its place.
+type Compared = (usize, bool, bool, Option<usize>);
+
+fn compared(alloc: Global, n: u64, some: &[(usize, &str)]) -> Result<Compared, Fail>
+    requires positive { 1 ≤ n }
+    requires at_most_20 { n ≤ 20 }
+{
+    let mut bytes = Vec::new(alloc);
+    demo_text(n, &mut bytes)?;
+    let lines: Vec<&str> = str::from_utf8(&bytes)?.lines().collect(alloc)?;
+    let mut misplaced = None;
+    for (at, line) in some {
+        if !stands_at(&lines, *at, line) {
+            misplaced = Some(*at);
         }
     }
+    let begins = lines.starts_with(&FIRST);
+    let ends = lines.ends_with(&LAST);
+    Ok((lines.len(), begins, ends, misplaced))
+}
+
+#[test]
+fn demos_have_these_lines(rt: HostRuntime) -> Result<(), Fail> {
+    assert_eq!(rt; compared(rt.alloc(), 1, &SMALL)?, (1006, true, true, None));
+    assert_eq!(rt; compared(rt.alloc(), 20, &LARGE)?, (4006, true, true, None));
     Ok(())
 }
 
