@@ -1,5 +1,5 @@
 -- The changes that a CSV text adds to a source, or the first fault of its records.
-use Rattle.std.specs.Prelude.{◌≡◌, ⊤, ℕ, ◌+◌, ◌==◌, Bool, List, length, drop, if◌then◌else◌, Option, Result, Ok, Err}
+use Rattle.std.specs.Prelude.{◌≡◌, ⊤, ℕ, ◌+◌, ◌==◌, Bool, List, [], length, drop, if◌then◌else◌, Option, Result, Ok, Err}
 use Rattle.std.specs.Result.{result_ok}
 use Rattle.csv.specs.Reading.{default_config, strip_bom, records}
 use Rattle.csv.specs.Records.{field_at}
@@ -75,6 +75,10 @@ weighted_at kinds at fields =
 -- the records without the first, where that is a header
 abbrev pub without_header : Bool → List (List (List ℕ)) → List (List (List ℕ))
 without_header header rows = if header then drop 1 rows else rows
+
+-- those records, where there may be more
+abbrev pub left_if : Bool → List (List (List ℕ)) → List (List (List ℕ))
+left_if more rows = if more then rows else []
 
 -- the change of each record, of which the first has the place 0
 abbrev pub changes_in : List Kind → List (List (List ℕ)) → Result (List Weighted) BadRecord

@@ -1,5 +1,5 @@
 -- What a reader of CSV bytes has yet to read.
-use Rattle.std.specs.Prelude.{◌≡◌, ℕ, ◌+◌, Bool, true, if◌then◌else◌, List, [], ◌∷◌, length, Option, Some, None, IsSome}
+use Rattle.std.specs.Prelude.{◌≡◌, ℕ, ◌+◌, true, List, [], length, Option, Some, None, IsSome}
 use Rattle.std.specs.Borrow.{Bor}
 use Rattle.csv.specs.Reading.{Ready, default_config, is_flexible, reader_config, reader_state, reader_trim, records_from, source_of}
 use Rattle.csv.specs.declared.parser.State.{State}
@@ -30,11 +30,3 @@ records_of state (Some bytes) = records_from default_config (length bytes + 1) s
 -- the records that it has yet to read
 abbrev pub records_left : ByteReader → List (List (List ℕ))
 records_left reader = records_of (reader_state reader) (bytes_left reader)
-
--- those records, where the reader may be asked for more
-abbrev pub left_if : Bool → ByteReader → List (List (List ℕ))
-left_if more reader = if more then records_left reader else []
-
--- a record that was found, and those that were left behind it; or none
-abbrev pub found_and_left : Bool → List (List ℕ) → ByteReader → List (List (List ℕ))
-found_and_left found fields reader = if found then fields ∷ records_left reader else []

@@ -1,14 +1,13 @@
 //! From CSV to the changes that it adds to a source.
 ghost use Rattle.std.specs.Prelude.{◌≡◌, ◌≢◌, All, Err, IfOk, option_map, true};
-ghost use Rattle.csv.specs.Reading.{default_config, records, strip_bom};
-ghost use Rattle.csv.specs.Records.{fields_of};
 ghost use Rattle.record_text.specs.KindLists.{kinds_of};
-ghost use Rattle.csv_changes.specs.Changes.{GivesCsv, at_record, atom_at, changes_in, changes_of, fault_of_kind, row_at, weight_at, weighted_at, without_header};
-ghost use Rattle.csv_changes.specs.RecordsLeft.{IsReading, found_and_left, left_if, records_left};
+ghost use Rattle.plain_csv.specs.Plain.{is_plain};
+ghost use Rattle.csv_changes.specs.Changes.{GivesCsv, at_record, atom_at, changes_in, changes_of, fault_of_kind, left_if, row_at, weight_at, weighted_at, without_header};
 
 use crate::fault::{CsvFault, CsvWhat};
-use csv::{ByteRecord, ErrorKind, Reader, ReaderBuilder};
+use crate::records::{QuotedRecords, Records};
 use frac_core::Frac;
+use plain_csv::{PlainRecords, is_plain};
 use record_text::{Atom, AtomFault, Kind, Kinds, Memory, Row, atom_from_field};
 use std::alloc::Global;
 use std::marker::Model;
@@ -61,101 +60,97 @@ pub fn read_changes(
     ensures value { GivesCsv result (changes_of csv.now kinds header) }
     ensures kinds { IfOk result (λ added. All (λ change. kinds_of change.row ≡ kinds) added) }
 {
-    let mut reader = reader_of(alloc, csv);
-    let mut fields = ByteRecord::new(alloc);
-    if !pass_header(&mut reader, &mut fields, header)? {
+    if is_plain(csv) {
+        plain_changes(alloc, csv, kinds, header)
+    } else {
+        quoted_changes(alloc, csv, kinds, header)
+    }
+}
+
+// The changes of a text that has no double quote.
+fn plain_changes(alloc: Global, csv: &[u8], kinds: Kinds, header: bool) -> Result<Added, CsvFault>
+    requires { is_plain csv.now ≡ true }
+    ensures { GivesCsv result (changes_of csv.now kinds header) }
+{
+    let mut records = PlainRecords::new(alloc, csv);
+    changes(alloc, &mut records, kinds, header)
+}
+
+// The changes of any text. This stands by itself, since the reader takes many kilobytes of the stack.
+#[inline(never)]
+fn quoted_changes(alloc: Global, csv: &[u8], kinds: Kinds, header: bool) -> Result<Added, CsvFault>
+    ensures { GivesCsv result (changes_of csv.now kinds header) }
+{
+    let mut records = QuotedRecords::new(alloc, csv);
+    changes(alloc, &mut records, kinds, header)
+}
+
+// The changes of the records, of which the first may be a header.
+fn changes<R: Records>(
+    alloc: Global,
+    records: &mut R,
+    kinds: Kinds,
+    header: bool,
+) -> Result<Added, CsvFault>
+    requires { R.reads records.old }
+    ensures { GivesCsv result (changes_in kinds (without_header header (R.progress records.old).left)) }
+{
+    if !pass_header(records, header)? {
         return Ok(Added::from_vec(Vec::new(alloc)));
     }
-    changes_left(alloc, &mut reader, &mut fields, kinds)
+    changes_left(alloc, records, kinds)
 }
 
-// A reader of records of any width, at the start of the text.
-fn reader_of(alloc: Global, csv: &[u8]) -> Reader<&[u8]>
-    ensures reads { IsReading result }
-    ensures all { records_left result ≡ records default_config (strip_bom csv.now) }
-{
-    ReaderBuilder::new()
-        .has_headers(false)
-        .flexible(true)
-        .from_reader(alloc, csv)
-}
-
-// Passes over the header, and says whether the reader may be asked for more records.
-fn pass_header(
-    reader: &mut Reader<&[u8]>,
-    fields: &mut ByteRecord,
-    header: bool,
-) -> Result<bool, Memory>
-    requires { IsReading reader.old }
-    ensures reads { IfOk result (λ more. more ≡ true → IsReading reader.new) }
-    ensures left { IfOk result (λ more. without_header header (records_left reader.old) ≡ left_if more reader.new) }
+// Passes over the header, and says whether there may be more records.
+fn pass_header<R: Records>(records: &mut R, header: bool) -> Result<bool, Memory>
+    requires { R.reads records.old }
+    ensures reads { IfOk result (λ more. more ≡ true → R.reads records.new) }
+    ensures left { IfOk result (λ more. without_header header (R.progress records.old).left ≡ left_if more (R.progress records.new).left) }
 {
     if header {
-        next_record(reader, fields)
+        records.next_record()
     } else {
         Ok(true)
     }
 }
 
-// Reads the next record, and says whether there was one.
-fn next_record(reader: &mut Reader<&[u8]>, fields: &mut ByteRecord) -> Result<bool, Memory>
-    requires { IsReading reader.old }
-    ensures reads { IfOk result (λ found. found ≡ true → IsReading reader.new) }
-    ensures next { IfOk result
-        (λ found. records_left reader.old ≡ found_and_left found (fields_of fields.new) reader.new) }
-{
-    match reader.read_byte_record(fields) {
-        Ok(found) => Ok(found),
-        Err(error) => match error.kind() {
-            // Bytes in memory give no IO error, though no clause of `csv` says so.
-            ErrorKind::Io(_) | ErrorKind::OutOfMemory => Err(Memory),
-            _ => unreachable!(),
-        },
-    }
-}
-
-// The changes of the records that the reader has yet to read.
-fn changes_left(
-    alloc: Global,
-    reader: &mut Reader<&[u8]>,
-    fields: &mut ByteRecord,
-    kinds: Kinds,
-) -> Result<Added, CsvFault>
-    requires { IsReading reader.old }
-    ensures { GivesCsv result (changes_in kinds (records_left reader.old)) }
+// The changes of the records that are left.
+fn changes_left<R: Records>(alloc: Global, records: &mut R, kinds: Kinds) -> Result<Added, CsvFault>
+    requires { R.reads records.old }
+    ensures { GivesCsv result (changes_in kinds (R.progress records.old).left) }
 {
     let mut added = Vec::new(alloc);
-    while next_record(reader, fields)? {
-        let change = weighted(alloc, added.len(), fields, kinds)?;
+    while records.next_record()? {
+        let change = weighted(alloc, added.len(), records, kinds)?;
         added.push(change)?;
     }
     Ok(Added::from_vec(added))
 }
 
-// The change of the record at a place.
-fn weighted(
+// The change of the record at hand, which has this place.
+fn weighted<R: Records>(
     alloc: Global,
     at: usize,
-    fields: &ByteRecord,
+    records: &R,
     kinds: Kinds,
 ) -> Result<Weighted, CsvFault>
-    ensures { GivesCsv result (weighted_at kinds at (fields_of fields.now)) }
+    ensures { GivesCsv result (weighted_at kinds at (R.progress records.now).fields) }
 {
-    if fields.len() != kinds.len() + 1 {
+    if records.field_count() != kinds.len() + 1 {
         return bad(at, CsvWhat::Width);
     }
-    let row = row(alloc, at, fields, kinds)?;
-    let weight = weight(at, fields.get(kinds.len()))?;
+    let row = row(alloc, at, records, kinds)?;
+    let weight = weight(at, records.field(kinds.len()))?;
     Ok(Weighted { row, weight })
 }
 
-// The row of the record's first fields.
-fn row(alloc: Global, at: usize, fields: &ByteRecord, kinds: Kinds) -> Result<Row, CsvFault>
-    ensures { GivesCsv result (row_at at kinds (fields_of fields.now)) }
+// The row of the first fields of the record at hand.
+fn row<R: Records>(alloc: Global, at: usize, records: &R, kinds: Kinds) -> Result<Row, CsvFault>
+    ensures { GivesCsv result (row_at at kinds (R.progress records.now).fields) }
 {
     let mut atoms = Vec::with_capacity(alloc, kinds.len())?;
     for column in 0..kinds.len() {
-        let atom = atom(alloc, at, fields.get(column), kinds.at(column))?;
+        let atom = atom(alloc, at, records.field(column), kinds.at(column))?;
         atoms.push(atom)?;
     }
     Ok(Row::from_atoms(atoms))

@@ -4,6 +4,7 @@
 
 mod changes;
 mod fault;
+mod records;
 
 pub use changes::{Added, read_changes};
 pub use fault::{CsvFault, CsvWhat};

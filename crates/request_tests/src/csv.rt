@@ -1,6 +1,6 @@
 //! Tests of reading CSV: that calls succeed, and that the definitions say what is meant.
 
-use csv_changes::{CsvFault, CsvWhat, read_changes};
+use csv_changes::{Added, CsvFault, CsvWhat, read_changes};
 use record_text::{Kind, Kinds, row_to_json};
 use std::alloc::Global;
 use std::test::Fail;
@@ -26,6 +26,18 @@ impl Columns {
 // A line for each change of a CSV text: its row as JSON, a space and its weight.
 fn changes(alloc: Global, csv: &str, columns: Columns, header: bool) -> Result<Vec<u8>, Fail> {
     let added = read_changes(alloc, csv.as_bytes(), columns.kinds(), header)?;
+    lines(alloc, &added)
+}
+
+// The same, or the fault of the text in words.
+fn answer(alloc: Global, csv: &[u8], columns: Columns, header: bool) -> Result<Vec<u8>, Fail> {
+    match read_changes(alloc, csv, columns.kinds(), header) {
+        Ok(added) => lines(alloc, &added),
+        Err(fault) => Ok(format!(in alloc; "{fault}")?.into_bytes()),
+    }
+}
+
+fn lines(alloc: Global, added: &Added) -> Result<Vec<u8>, Fail> {
     let mut text = Vec::new(alloc);
     for change in added.as_slice() {
         let row = row_to_json(alloc, &change.row)?.to_vec(alloc)?;
@@ -41,6 +53,13 @@ fn changes(alloc: Global, csv: &str, columns: Columns, header: bool) -> Result<V
 fn count(alloc: Global, csv: &[u8], columns: Columns, header: bool) -> Result<usize, CsvFault> {
     let added = read_changes(alloc, csv, columns.kinds(), header)?;
     Ok(added.as_slice().len())
+}
+
+// The text behind a header that has a double quote.
+fn behind_quotes(alloc: Global, csv: &[u8]) -> Result<Vec<u8>, Fail> {
+    let mut text = Vec::from_slice(alloc, b"\"header\"\n")?;
+    text.extend_from_slice(csv)?;
+    Ok(text)
 }
 
 // A CSV text with a record of the text 1, and one of a text of so many bytes.
@@ -143,6 +162,38 @@ fn takes_texts_of_up_to_255_bytes(rt: HostRuntime) -> Result<(), Fail> {
         let csv = long_text(rt.alloc(), len)?;
         let count = count(rt.alloc(), &csv, Columns::Text, false);
         assert_eq!(rt; count, counted, "{len}");
+    }
+    Ok(())
+}
+
+#[test]
+fn reads_a_text_alike_with_and_without_quotes_before_it(rt: HostRuntime) -> Result<(), Fail> {
+    let rows: [&[u8]; 17] = [
+        b"",
+        b"\n\r\n\r",
+        b"1,1",
+        b"1,1\n",
+        b"1,1\r\n2,-1/2\r\n",
+        b"\r\n\n1,1\r2,2\n\n3,0.5\r",
+        b"1,1\n \n",
+        b"1,1\n,\n",
+        b"1,1,\n",
+        b",1\n",
+        b"1,\n",
+        b"1\n2,1\n",
+        b"1,1\nx,x\n1,1\n",
+        b"a,1,1\r,2,1\n b ,3,1",
+        b"a'b\xc3\xa9,1,1\n",
+        b"\xff,1,1\n",
+        b"a,1,1\n1,1\n",
+    ];
+    for csv in rows {
+        let twin = behind_quotes(rt.alloc(), csv)?;
+        for columns in [Columns::Int, Columns::TextAndInt] {
+            let plain = answer(rt.alloc(), csv, columns, false)?;
+            let quoted = answer(rt.alloc(), &twin, columns, true)?;
+            assert_eq!(rt; plain, quoted, "{csv:?}");
+        }
     }
     Ok(())
 }
