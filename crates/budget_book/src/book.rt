@@ -1,5 +1,5 @@
 //! The book.
-ghost use Rattle.std.specs.Prelude.{◌≡◌, ◌<◌, ◌≤◌, ◌++◌, [], ◌∷◌, All, IfOk, None, OnErr, OnOk, length};
+ghost use Rattle.std.specs.Prelude.{◌≡◌, ◌<◌, ◌≤◌, ◌++◌, [], ◌∷◌, All, None, OnErr, OnOk, length};
 ghost use Rattle.budget_book.specs.Asks.{AreAsks, charged, first_short};
 ghost use Rattle.budget_book.specs.Budgets.{IsKept, max_total, new_budget, spent_at, total_at};
 
@@ -34,15 +34,6 @@ impl Book {
         Book {
             budgets: Vec::new(alloc),
         }
-    }
-
-    /// No sources, with the room for so many.
-    pub fn with_room(alloc: Global, sources: usize) -> Result<Book, Memory>
-        ensures { IfOk result (λ book. book ≡ []) }
-    {
-        Ok(Book {
-            budgets: Vec::with_capacity(alloc, sources)?,
-        })
     }
 
     /// Appends a source of which nothing is spent. After `Memory` nothing is changed.

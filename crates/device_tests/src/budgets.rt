@@ -33,10 +33,3 @@ fn asked_sources_are_charged_or_the_first_short_one_is_named(rt: HostRuntime) ->
     assert_eq!(rt; book.len(), 3);
     Ok(())
 }
-
-#[test]
-fn room_is_taken_for_sources(rt: HostRuntime) -> Result<(), Fail> {
-    let book = Book::with_room(rt.alloc(), 16)?;
-    assert_eq!(rt; book.len(), 0);
-    Ok(())
-}

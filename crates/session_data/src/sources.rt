@@ -53,7 +53,7 @@ impl Model for Sources {
 }
 
 impl Sources {
-    /// No sources. It takes the room for the names and the budgets of `MAX_SOURCES`.
+    /// No sources. It takes the room of the table of names for `MAX_SOURCES`.
     pub fn new(alloc: Global) -> Result<Sources, Memory>
         ensures committed { IfOk result (λ sources. sources.committed ≡ []) }
         ensures pending { IfOk result (λ sources. sources.pending ≡ []) }
@@ -62,7 +62,7 @@ impl Sources {
             names: IndexSet::with_capacity(alloc, MAX_SOURCES)?,
             types: SourceTypes::new(alloc),
             sets: SourceSet::new(alloc),
-            book: Book::with_room(alloc, MAX_SOURCES)?,
+            book: Book::new(alloc),
         })
     }
 
