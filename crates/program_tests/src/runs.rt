@@ -4,14 +4,21 @@ ghost use Rattle.std.specs.Prelude.{◌≤◌, ◌≢◌};
 use io_edge::{MemShelf, MemSink, MemSource, Noise, SureNoise, SureSink, SureSource};
 use std::alloc::Global;
 use std::test::Fail;
-use wpinq_program::{Ending, MAX_BYTES, Word, wpinq};
+use wpinq_program::{Ending, Word, wpinq};
 
 const SUM: &str = "{\"op\":\"sum\",\"weights\":[\"1/2\",\"1/3\"]}\n";
 
 const SUM_REPLY: &str = "{\"ok\":true,\"sum\":\"5/6\"}\n";
 
+const EMPTY_SUM: &str = "{\"op\":\"sum\",\"weights\":[]}";
+
+const EMPTY_SUM_REPLY: &str = "{\"ok\":true,\"sum\":\"0\"}\n";
+
+/// So many spaces make that line the longest that there may be.
+const SPACES: usize = 1_048_551;
+
 /// Runs the top call under these words over these devices: how it ends, and what was written.
-fn run<N: Noise>(
+pub fn run<N: Noise>(
     alloc: Global,
     texts: &[&str],
     mut source: MemSource,
@@ -214,29 +221,96 @@ fn a_write_fault_leaves_a_front_of_the_reply(rt: HostRuntime) -> Result<(), Fail
     Ok(())
 }
 
-/// The sum's line, and so many spaces.
-fn spaced_sum(alloc: Global, spaces: usize) -> Result<String, Fail> {
-    let mut input = Vec::from_slice(alloc, SUM.as_bytes())?;
+/// A line that sums nothing, with so many spaces after it, and then this end.
+fn spaced_sum(alloc: Global, spaces: usize, end: &str) -> Result<String, Fail> {
+    let mut input = Vec::from_slice(alloc, EMPTY_SUM.as_bytes())?;
     input.extend_from_slice(&vec![in alloc; b' '; spaces]?)?;
+    input.extend_from_slice(end.as_bytes())?;
     Ok(String::from_utf8(input)?)
 }
 
 #[test]
-fn input_over_the_limit_is_cut_there(rt: HostRuntime) -> Result<(), Fail> {
-    let most = MAX_BYTES as usize - SUM.len();
-    for (spaces, status, lines) in [(most, 0, 2), (most + 1, 6, 1)] {
-        let input = spaced_sum(rt.alloc(), spaces)?;
+fn a_line_over_the_limit_is_refused_and_the_next_is_answered(rt: HostRuntime) -> Result<(), Fail> {
+    let rows = [
+        (SPACES, "\n", EMPTY_SUM_REPLY),
+        // The CR at the end of a line is none of its bytes.
+        (SPACES, "\r\n", EMPTY_SUM_REPLY),
+        (SPACES + 1, "\n", "{\"ok\":false,\"why\":\"line\"}\n"),
+        (SPACES + 1, "\r\n", "{\"ok\":false,\"why\":\"line\"}\n"),
+        (3 * SPACES, "\n", "{\"ok\":false,\"why\":\"line\"}\n"),
+    ];
+    for (spaces, end, reply) in rows {
+        let mut input = spaced_sum(rt.alloc(), spaces, end)?;
+        input.push_str(SUM)?;
+        let replies = format!(in rt.alloc(); "{reply}{SUM_REPLY}")?;
         let (ending, written) = answer(rt.alloc(), &[], input.as_str(), 65_536)?;
-        assert!(rt; written.as_str().starts_with(SUM_REPLY), "{spaces}");
-        assert_eq!(rt; ending, Ending { status, lines }, "{spaces}");
+        assert_eq!(rt; written.as_str(), replies.as_str(), "{spaces}");
+        assert_eq!(rt; (ending.status, ending.lines), (0, 2), "{spaces}");
+    }
+    Ok(())
+}
+
+#[test]
+fn forty_of_the_longest_lines_are_answered(rt: HostRuntime) -> Result<(), Fail> {
+    let line = spaced_sum(rt.alloc(), SPACES, "\n")?;
+    let mut input = String::new(rt.alloc());
+    let mut replies = String::new(rt.alloc());
+    for _ in 0..40 {
+        input.push_str(line.as_str())?;
+        replies.push_str(EMPTY_SUM_REPLY)?;
+    }
+    let (ending, written) = answer(rt.alloc(), &[], input.as_str(), 65_536)?;
+    assert_eq!(rt; written.as_str(), replies.as_str());
+    assert_eq!(rt; (ending.status, ending.lines), (0, 40));
+    Ok(())
+}
+
+#[test]
+fn input_over_the_limit_is_cut_there(rt: HostRuntime) -> Result<(), Fail> {
+    let rows = [
+        ("5", "\n\n\n\n\n", "", 0, 0),
+        ("5", "\n\n\n\n\n\n", "", 6, 0),
+        // A line that is whole within the limit is answered, and one that is cut isn't.
+        (
+            "26",
+            "{\"op\":\"sum\",\"weights\":[]}\n",
+            EMPTY_SUM_REPLY,
+            0,
+            1,
+        ),
+        (
+            "26",
+            "{\"op\":\"sum\",\"weights\":[]}\n\n",
+            EMPTY_SUM_REPLY,
+            6,
+            1,
+        ),
+        ("25", "{\"op\":\"sum\",\"weights\":[]}\n", "", 6, 0),
+        (
+            "25",
+            "{\"op\":\"sum\",\"weights\":[]}",
+            EMPTY_SUM_REPLY,
+            0,
+            1,
+        ),
+    ];
+    for (most, input, replies, status, lines) in rows {
+        for piece in [1, 4, 64] {
+            let (ending, written) = answer(rt.alloc(), &["--max-bytes", most], input, piece)?;
+            assert_eq!(rt; written.as_str(), replies, "{most}");
+            assert_eq!(rt; ending, Ending { status, lines }, "{most}");
+        }
     }
     Ok(())
 }
 
 #[test]
 fn faulty_words_are_refused_before_anything_is_read(rt: HostRuntime) -> Result<(), Fail> {
-    let faulty: [&[&str]; 7] = [
+    let faulty: [&[&str]; 10] = [
         &["--nothing"],
+        &["--demo", "0"],
+        &["--max-bytes"],
+        &["--max-bytes", "007"],
         &[""],
         &["curator"],
         &["--curator "],

@@ -1,3 +1,4 @@
 mod Matches
 mod Numbers
 mod Parse
+pub mod WithinLimits

@@ -1,5 +1,5 @@
 -- What some words mean.
-use Rattle.std.specs.Prelude.{◌≡◌, ◌^◌, ◌++◌, ℕ, Bool, true, false, List, [], ◌∷◌, codes, Option, None, Some, option_map, is_some, not}
+use Rattle.std.specs.Prelude.{◌≡◌, ◌≤◌, ◌^◌, ◌++◌, ℕ, Bool, true, false, List, [], ◌∷◌, codes, Option, None, Some, option_map, is_some, not, IfSome}
 use Rattle.std.specs.List.{list_all}
 use Rattle.program_words.specs.Numbers.{number_up_to}
 use Rattle.program_words.specs.Words.{options_of}
@@ -46,3 +46,13 @@ abbrev pub WorkedNumbers : Type 0
 WorkedNumbers = (number_up_to 20 (codes "1") ≡ Some 1) × (number_up_to 20 (codes "20") ≡ Some 20)
     × (list_all (λ text. not (is_some (number_up_to 20 text))) (codes "0" ∷ codes "21" ∷ codes "" ∷ codes "+5" ∷ codes "-5" ∷ codes "007"
     ∷ codes " 5" ∷ codes "5 " ∷ codes "1e1" ∷ codes "100000000000000000005" ∷ []) ≡ true)
+
+-- the size of a demo is from 1 to 20, and the limit at most 2^40
+pub record IsWithinLimits (options : Options) : Type 0 where
+  pub demo : IfSome options.demo (λ n. (1 ≤ n) × (n ≤ 20))
+  pub max_bytes : options.max_bytes ≤ 2 ^ 40
+
+-- all options that words give are within these
+abbrev pub OptionsWithinLimits : Type 0
+OptionsWithinLimits =
+    (words : List (List ℕ)) (options : Options) → options_of words ≡ Some options → IsWithinLimits options

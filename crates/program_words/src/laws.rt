@@ -1,5 +1,5 @@
 //! Laws of the words.
-ghost use Rattle.program_words.specs.Laws.{DemoValue, FaultyWords, MaxBytesValue, NoWords, WorkedNumbers, WorkedWords};
+ghost use Rattle.program_words.specs.Laws.{DemoValue, FaultyWords, MaxBytesValue, NoWords, OptionsWithinLimits, WorkedNumbers, WorkedWords};
 
 /// What some lists of words give.
 pub fn law_words()
@@ -13,4 +13,5 @@ pub fn law_word_values()
     ensures demo { DemoValue }
     ensures max_bytes { MaxBytesValue }
     ensures numbers { WorkedNumbers }
+    ensures limits { OptionsWithinLimits }
 {}

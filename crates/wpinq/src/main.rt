@@ -20,7 +20,7 @@ fn main(rt: HostRuntime) -> ExitCode {
         Err(_) => FAULTY_WORDS,
     };
     if status == FAULTY_WORDS {
-        let _ = eprintln!(rt; "usage: wpinq [--curator]");
+        let _ = eprintln!(rt; "usage: wpinq [--curator] [--demo N] [--max-bytes N]");
     }
     ExitCode::from(status)
 }

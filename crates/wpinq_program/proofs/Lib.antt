@@ -2,5 +2,10 @@ pub mod TakenLemmas
 pub mod LineLemmas
 pub mod Segments
 pub mod FaultLemmas
+pub mod RanLemmas
+pub mod WroteLemmas
 pub mod ServedLemmas
+pub mod ShownLemmas
+pub mod StreamLemmas
 pub mod EndLemmas
+pub mod OutcomeLemmas

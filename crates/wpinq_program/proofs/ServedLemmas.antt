@@ -1,76 +1,33 @@
 -- What was served, over several lines.
-use Rattle.std.proofs.Common.{◌≡◌, ℤ, ℕ, Bool, true, false, List, [], ◌∷◌, ◌++◌, refl, ap, sym, ◌∙◌, append_assoc, append-nil, ◌<◌, ◌+◌, length, take, drop, length-append, arith, subst, inl, inr}
-use Rattle.std.specs.Prelude.{All, ◌≢◌, MatchBool, MatchResult, Result, Ok, Err, is_ok}
-use Rattle.std.proofs.lemmas.Grind.{flat_map-append}
-use Rattle.std.proofs.lemmas.List.{take_all, take-append-drop}
-use Rattle.std.proofs.Math.Seq.{take-append-add}
+use Rattle.std.proofs.Common.{◌≡◌, ℤ, ℕ, Bool, true, false, List, [], ◌∷◌, ◌++◌, refl, ap, sym, ◌∙◌, append_assoc, append-nil, ◌<◌, ◌+◌, length, take, drop, arith}
+use Rattle.std.specs.Prelude.{All, ◌≢◌, MatchResult, Result, is_ok}
+use Rattle.std.proofs.lemmas.List.{take-append-drop}
 use Rattle.io_edge.specs.declared.failed.Failed.{Failed}
 use Rattle.io_edge.specs.Known.{Gains}
-use Rattle.io_edge.proofs.KnownLemmas.{Gains-none, Gains-append}
 use Rattle.line_runs.specs.Lines.{without_cr, whole_lines, open_line, last_line}
-use Rattle.line_runs.specs.Runs.{Run}
-use Rattle.line_runs.proofs.LineLemmas.{whole_lines-append, open_line-lf, without_cr-long}
-use Rattle.line_runs.proofs.RunLemmas.{Run-nil, Run-append, Run-silent_from, Run-one_from, Run-same}
+use Rattle.line_runs.proofs.LineLemmas.{whole_lines-append, open_line-lf}
 use Rattle.request_machine.specs.Machine.{Answers}
-use Rattle.request_machine.specs.State.{State}
 use Rattle.wpinq_program.specs.Faults.{RoseBy, noise_replies}
-use Rattle.wpinq_program.proofs.FaultLemmas.{RoseBy-append, RoseBy-none}
-use Rattle.wpinq_program.specs.Served.{joined, IsProperFront, Moment, Served, ServedInPart}
-use Rattle.wpinq_program.proofs.Segments.{Segment, whole_lines-segment, whole_lines-rest, open_line-rest}
-use Rattle.wpinq_program.proofs.LineLemmas.{kept-extend, kept_is_long, kept_whole, none_kept, short_or_long, some_kept}
-use Rattle.request_machine.proofs.MachineLemmas.{Answers-overlong}
-use Rattle.request_machine.specs.Limits.{max_line}
 use Rattle.wpinq_program.specs.Limits.{kept_of}
+use Rattle.wpinq_program.specs.Served.{Moment, Served, ServedInPart}
+use Rattle.wpinq_program.proofs.LineLemmas.{kept-extend, none_kept, some_kept}
+use Rattle.wpinq_program.proofs.RanLemmas.{Ran-answered, Ran-append, Ran-empty, Ran-kept, Ran-none}
+use Rattle.wpinq_program.proofs.Segments.{Segment, whole_lines-segment, whole_lines-rest, open_line-rest}
+use Rattle.wpinq_program.proofs.WroteLemmas.{Wrote-append, Wrote-none, Wrote-one}
 
 pub Served-none : (m : Moment) → Served m m [] true
-Served-none m = record {
-  given = [];
-  replies = [];
-  text = [];
-  run = Run-nil Answers m.state;
-  drawn = Gains-none m.given;
-  count = omega arith;
-  faults = RoseBy-none m.faults;
-  put = Gains-none m.written;
-  whole = refl;
-}
+Served-none m = record { replies = []; ran = Ran-none m; wrote = Wrote-none m }
 
 -- an empty line
 pub Served-empty : (m : Moment) → Served m m ([] ∷ []) true
-Served-empty m = record {
-  given = [];
-  replies = [];
-  text = [];
-  run = Run-silent_from Answers m.state m.state [] [] (refl, refl, refl);
-  drawn = Gains-none m.given;
-  count = omega arith;
-  faults = RoseBy-none m.faults;
-  put = Gains-none m.written;
-  whole = refl;
-}
-
--- a proper front of what follows a whole text
-front_behind : (text more part : List ℕ) → IsProperFront part more → IsProperFront (text ++ part) (text ++ more)
-front_behind text more part f =
-    (length text + f.0, omega (arith, f.1, length-append text more), rw (f.2) (sym (take-append-add text more f.0)))
-
-whole_behind : (all : Bool) (text more part : List ℕ) → MatchBool all (part ≡ more) (IsProperFront part more)
-    → MatchBool all (text ++ part ≡ text ++ more) (IsProperFront (text ++ part) (text ++ more))
-whole_behind true text more part e = ap (λ l. text ++ l) e
-whole_behind false text more part f = front_behind text more part f
+Served-empty m = record { replies = []; ran = Ran-empty m; wrote = Wrote-none m }
 
 pub Served-append : (a b c : Moment) (first second : List (List ℕ)) (all : Bool)
     → Served a b first true → Served b c second all → Served a c (first ++ second) all
 Served-append a b c first second all p q = record {
-  given = p.given ++ q.given;
   replies = p.replies ++ q.replies;
-  text = p.text ++ q.text;
-  run = Run-append Answers a.state b.state c.state first second p.given q.given p.replies q.replies p.run q.run;
-  drawn = Gains-append a.given b.given c.given p.given q.given p.drawn q.drawn;
-  count = omega (arith, p.count, q.count, length-append p.replies q.replies);
-  faults = RoseBy-append a.faults b.faults c.faults p.replies q.replies p.faults q.faults;
-  put = Gains-append a.written b.written c.written p.text q.text p.put q.put;
-  whole = rw (flat_map-append, ← p.whole) (whole_behind all p.text (joined q.replies) q.text q.whole);
+  ran = Ran-append a b c first second p.replies q.replies p.ran q.ran;
+  wrote = Wrote-append a b c p.replies q.replies all p.wrote q.wrote;
 }
 
 pub ServedInPart-append : (a b c : Moment) (first second : List (List ℕ))
@@ -94,12 +51,6 @@ ServedInPart-more a b lines more p = record {
 pub ServedInPart-of : (a b : Moment) (lines : List (List ℕ)) → Served a b lines false → ServedInPart a b lines
 ServedInPart-of a b lines p = record { done = lines; rest = []; front = sym (append-nil lines); served = p }
 
-written_whole : (reply : List ℕ) (n : ℕ) (result : Result (Unit {0}) Failed)
-    → MatchResult result (λ _. n ≡ length reply) (λ _. n < length reply)
-    → MatchBool (is_ok result) (take n reply ≡ reply) (IsProperFront (take n reply) reply)
-written_whole reply n (Ok x) e = take_all n reply (omega (arith, e))
-written_whole reply n (Err x) e = (n, e, refl)
-
 -- one line that isn't empty
 pub Served-answered : (a b : Moment) (line : List ℕ) (given : List (ℕ × ℤ)) (reply : List ℕ) (n : ℕ) (result : Result (Unit {0}) Failed)
     → 0 < length line → Answers a.state line given reply b.state → Gains a.given b.given given → b.lines ≡ a.lines + 1
@@ -107,46 +58,15 @@ pub Served-answered : (a b : Moment) (line : List ℕ) (given : List (ℕ × ℤ
     → Gains a.written b.written (take n reply) → MatchResult result (λ _. n ≡ length reply) (λ _. n < length reply)
     → Served a b (line ∷ []) (is_ok result)
 Served-answered a b line given reply n result some answered drawn count faults put whole = record {
-  given = given;
   replies = reply ∷ [];
-  text = take n reply;
-  run = Run-one_from Answers a.state b.state line given (reply ∷ []) some (reply, refl, answered);
-  drawn = drawn;
-  count = omega (arith, count);
-  faults = faults;
-  put = put;
-  whole = rw (append-nil) (written_whole reply n result whole);
+  ran = Ran-answered a b line given reply some answered drawn count faults;
+  wrote = Wrote-one a b reply n result put whole;
 }
-
--- ---- lines of which only the front is kept
-
-run_of_kept : (old new : State) (line : List ℕ) (given : List (ℕ × ℤ)) (replies : List (List ℕ))
-    → Run Answers old (without_cr (kept_of line) ∷ []) given replies new → Run Answers old (without_cr line ∷ []) given replies new
-run_of_kept old new line given replies run =
-    elim (short_or_long line) as (λ _. Run Answers old (without_cr line ∷ []) given replies new) [
-      | inl short ↦ subst (λ l. Run Answers old (without_cr l ∷ []) given replies new) (kept_whole line short) run
-      | inr long ↦
-          let kept = kept_is_long line long in
-          let whole : max_line < length (without_cr line) = omega (arith, without_cr-long line, long) in
-          Run-same Answers old new (without_cr (kept_of line)) (without_cr line) given replies
-          (omega (arith, kept)) (omega (arith, whole))
-          (λ state noise reply next a. Answers-overlong state (without_cr (kept_of line)) (without_cr line) noise reply next kept whole a) run
-    ]
 
 -- a line was served where what is kept of it was
 pub Served-kept : (a b : Moment) (line kept : List ℕ) (all : Bool) → kept ≡ kept_of line
     → Served a b (without_cr kept ∷ []) all → Served a b (without_cr line ∷ []) all
-Served-kept a b line kept all k s = record {
-  given = s.given;
-  replies = s.replies;
-  text = s.text;
-  run = run_of_kept a.state b.state line s.given s.replies (subst (λ l. Run Answers a.state (without_cr l ∷ []) s.given s.replies b.state) k s.run);
-  drawn = s.drawn;
-  count = s.count;
-  faults = s.faults;
-  put = s.put;
-  whole = s.whole;
-}
+Served-kept a b line kept all k s = record { replies = s.replies; ran = Ran-kept a b line kept s.replies k s.ran; wrote = s.wrote }
 
 -- the last line: there is none, or it is served
 pub Served-no_last : (a : Moment) (line kept : List ℕ) → kept ≡ kept_of line → length kept ≡ 0 → Served a a (last_line line) true

@@ -1,5 +1,6 @@
 pub mod Limits
 pub mod Faults
 pub mod Served
-pub mod Words
+pub mod Shown
+pub mod Stream
 pub mod Outcome

@@ -2,10 +2,6 @@
 use Rattle.std.specs.Prelude.{ℕ, ◌+◌, List, take}
 use Rattle.request_machine.specs.Limits.{max_line}
 
--- the most bytes of input that a run takes
-abbrev pub max_bytes : ℕ
-max_bytes = 1048576
-
 -- the size of the buffer that a piece of the input is read into
 abbrev pub piece_len : ℕ
 piece_len = 65536

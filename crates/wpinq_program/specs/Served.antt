@@ -33,18 +33,26 @@ moment lines written given faults state =
 abbrev pub responding : Responder → Option (List ℕ) → Option (List (ℕ × ℤ)) → ℕ → Moment
 responding responder written given faults = moment responder.lines written given faults responder.session
 
--- From old to new the machine ran over these lines, and what was written are its replies: all of them, or a proper
--- front. The noise's count rose at least as often as a reply refuses for noise, or stands at its last value.
-pub record Served (old new : Moment) (lines : List (List ℕ)) (all : Bool) : Type 0 where
+-- From old to new the machine ran over these lines and had these replies. The noise's count rose at least as often as a
+-- reply refuses for noise, or stands at its last value.
+pub record Ran (old new : Moment) (lines replies : List (List ℕ)) : Type 0 where
   pub given : List (ℕ × ℤ)
-  pub replies : List (List ℕ)
-  pub text : List ℕ
   pub run : Run Answers old.state lines given replies new.state
   pub drawn : Gains old.given new.given given
   pub count : new.lines ≡ old.lines + length replies
   pub faults : RoseBy (noise_replies replies) old.faults new.faults
+
+-- from old to new these replies were written: all of them, or a proper front
+pub record Wrote (old new : Moment) (replies : List (List ℕ)) (all : Bool) : Type 0 where
+  pub text : List ℕ
   pub put : Gains old.written new.written text
   pub whole : MatchBool all (text ≡ joined replies) (IsProperFront text (joined replies))
+
+-- the machine ran over these lines, and its replies were written
+pub record Served (old new : Moment) (lines : List (List ℕ)) (all : Bool) : Type 0 where
+  pub replies : List (List ℕ)
+  pub ran : Ran old new lines replies
+  pub wrote : Wrote old new replies all
 
 -- the machine ran over some of the lines, from their front, and a proper front of its replies was written
 pub record ServedInPart (old new : Moment) (lines : List (List ℕ)) : Type 0 where

@@ -2,7 +2,7 @@
 ghost use Rattle.std.specs.Prelude.{◌≡◌, ◌+◌, ◌<◌, ◌≤◌, ℕ, List, ◌++◌, length, take, IfOk};
 ghost use Rattle.io_edge.specs.Known.{Loses, ReadOutcome};
 ghost use Rattle.io_edge.specs.Causes.{HasCause};
-ghost use Rattle.wpinq_program.specs.Outcome.{BeyondIs};
+ghost use Rattle.wpinq_program.specs.Stream.{BeyondIs};
 
 use crate::beyond::Beyond;
 use io_edge::{Failed, Source};

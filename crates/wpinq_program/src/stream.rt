@@ -1,7 +1,7 @@
 //! Reads the input piece by piece, and answers the lines of each piece before the next is read.
 ghost use Rattle.std.specs.Prelude.{◌≡◌, ◌^◌, ◌<◌, ◌≤◌, [], length};
 ghost use Rattle.io_edge.specs.Causes.{Rose};
-ghost use Rattle.wpinq_program.specs.Outcome.{Streamed};
+ghost use Rattle.wpinq_program.specs.Stream.{Streamed};
 ghost use Rattle.wpinq_program.specs.Served.{responding};
 
 use crate::beyond::Beyond;

@@ -1,46 +1,24 @@
 //! The top call.
-ghost use Rattle.std.specs.Prelude.{◌≡◌, ◌↔◌, ◌^◌, ◌<◌, ◌≤◌, ◌≢◌, [], length, false, unwrap_or, None, IfOk};
+ghost use Rattle.std.specs.Prelude.{◌≡◌, ◌≢◌, ◌⊎◌, ◌<◌, None, Some};
 ghost use Rattle.io_edge.specs.Causes.{Rose};
-ghost use Rattle.request_machine.specs.State.{start_state};
-ghost use Rattle.wpinq_program.specs.Limits.{max_bytes, piece_len};
-ghost use Rattle.wpinq_program.specs.Outcome.{Outcome, IsComplete, IsStatus};
+ghost use Rattle.program_words.specs.Laws.{IsWithinLimits};
+ghost use Rattle.program_words.specs.Words.{options_of};
+ghost use Rattle.wpinq_program.specs.Outcome.{AskDemo, AskKnownInput, IsComplete, IsStatus, Outcome};
 ghost use Rattle.wpinq_program.specs.Served.{moment};
-ghost use Rattle.wpinq_program.specs.Words.{flag_of};
 
-use crate::ending::Ending;
-use crate::line_buffer::LineBuffer;
-use crate::responder::Responder;
-use crate::stop::Stop;
-use crate::stream::serve_stream;
-use crate::word::Word;
-use crate::words::flag_of;
+use crate::demo::run_demo;
+use crate::ending::{Ending, NO_MEMORY, USAGE};
+use crate::input_run::run_input;
 use io_edge::{Noise, Shelf, Sink, Source};
-use session_core::Memory;
+use program_words::{Options, Word, WordsFault, law_word_values, read_words};
 use std::alloc::Global;
 use std::marker::Brand;
 use std::sync::ledger::{Blank, Ledger};
 use steps::Steps;
 
-/// The most bytes of input that one run takes.
-pub const MAX_BYTES: u64 = 1_048_576;
-
-/// The size of the buffer that a piece of the input is read into.
-const PIECE: usize = 65_536;
-
-const DONE: u8 = 0;
-
-const USAGE: u8 = 2;
-
-const READ_FAULT: u8 = 3;
-
-const WRITE_FAULT: u8 = 4;
-
-const NO_MEMORY: u8 = 5;
-
-const OVER_LIMIT: u8 = 6;
-
-/// Answers the request lines of the source, and writes each reply to the sink before more is read.
-/// The words are none, or the one word `--curator`, which opens exact answers.
+/// Answers the request lines of the source, and writes each reply to the sink before more is read; or, where the words
+/// have `--demo N`, answers the demo's lines and writes the replies to the last three. The word `--curator` opens
+/// exact answers, which the demo always has, and `--max-bytes N` says how many bytes the input may have.
 pub fn wpinq<S: Source, K: Sink, N: Noise, F: Shelf>(
     alloc: Global,
     words: &[Word],
@@ -50,69 +28,52 @@ pub fn wpinq<S: Source, K: Sink, N: Noise, F: Shelf>(
     shelf: &mut F,
 ) -> Ending
     // What each status says of the bytes taken, the lines answered and the replies written.
-    ensures outcome { let state = start_state (unwrap_or (flag_of words.now) false) in
-        Outcome max_bytes (S.left src.old) (S.left src.new)
-        (moment 0 (K.written out.old) (N.given noise.old) (N.faults noise.old) state)
+    ensures outcome { Outcome (options_of words.now) (S.left src.old) (S.left src.new)
+        (moment 0 (K.written out.old) (N.given noise.old) (N.faults noise.old))
         (moment result.lines (K.written out.new) (N.given noise.new) (N.faults noise.new)) result.status }
     ensures status { IsStatus result.status }
 
-    // The cause of each.
-    ensures words { (result.status ≡ 2) ↔ (flag_of words.now ≡ None) }
+    // The cause of each. Faulty words are told unless there is no memory to read them.
+    ensures words { result.status ≡ 2 → options_of words.now ≡ None }
+    ensures faulty { options_of words.now ≡ None → (result.status ≡ 2) ⊎ (result.status ≡ 5) }
     ensures read_fault { result.status ≡ 3 → Rose (S.faults src.old) (S.faults src.new) }
     ensures write_fault { result.status ≡ 4 → Rose (K.faults out.old) (K.faults out.new) }
+
+    // The demo reads nothing.
+    ensures source { AskDemo (options_of words.now) → S.faults src.new ≡ S.faults src.old }
 
     // No reply is for a fault of the shelf, whose count stays: no request reads a file.
     ensures shelf { F.faults shelf.new ≡ F.faults shelf.old }
 
-    // Without a fault an input within the limit is answered to its end, unless there was no memory at the start.
-    ensures complete { flag_of words.now ≢ None → ¬ Rose (S.faults src.old) (S.faults src.new)
-        → ¬ Rose (K.faults out.old) (K.faults out.new) → IsComplete max_bytes (S.left src.old) result.status }
+    // Without a fault, an input within the limit is answered to its end, and so is the demo, unless there was no memory
+    // at the start.
+    ensures complete { AskKnownInput (options_of words.now) (S.left src.old)
+        → ¬ Rose (S.faults src.old) (S.faults src.new) → ¬ Rose (K.faults out.old) (K.faults out.new)
+        → IsComplete result.status }
+    ensures demo_complete { AskDemo (options_of words.now)
+        → ¬ Rose (K.faults out.old) (K.faults out.new) → IsComplete result.status }
 {
-    let Some(curator) = flag_of(words) else {
-        return Ending {
-            status: USAGE,
-            lines: 0,
-        };
-    };
-    let Ok((responder, begun, mut piece)) = buffers(alloc, curator) else {
-        return Ending {
-            status: NO_MEMORY,
-            lines: 0,
-        };
-    };
-    run::<Brand, S, K, N, F>(
-        Blank::new(1),
-        responder,
-        begun,
-        &mut piece,
-        MAX_BYTES,
-        src,
-        out,
-        noise,
-        shelf,
-    )
+    law_word_values();
+    match read_words(alloc, words) {
+        Ok(options) => run::<Brand, S, K, N, F>(
+            Blank::new(1),
+            alloc,
+            options,
+            src,
+            out,
+            noise,
+            shelf,
+        ),
+        Err(WordsFault::Faulty) => Ending::before_any_line(USAGE),
+        Err(WordsFault::Memory) => Ending::before_any_line(NO_MEMORY),
+    }
 }
 
-/// All that has to be there before the first line is read.
-fn buffers(alloc: Global, curator: bool) -> Result<(Responder, LineBuffer, Vec<u8>), Memory>
-    ensures state { IfOk result (λ all. all.0.session ≡ start_state curator) }
-    ensures lines { IfOk result (λ all. all.0.lines ≡ 0) }
-    ensures begun { IfOk result (λ all. all.1 ≡ []) }
-    ensures piece { IfOk result (λ all. length all.2.items ≡ piece_len) }
-{
-    let responder = Responder::new(alloc, curator)?;
-    let begun = LineBuffer::new(alloc)?;
-    let piece = vec![in alloc; 0u8; PIECE]?;
-    Ok((responder, begun, piece))
-}
-
-/// Serves the input with a counter of steps from the blank page.
+/// Runs what the options ask for, with a counter of steps from the blank page.
 fn run<L: Ledger, S: Source, K: Sink, N: Noise, F: Shelf>(
     blank: Blank,
-    mut responder: Responder,
-    mut begun: LineBuffer,
-    piece: &mut [u8],
-    max: u64,
+    alloc: Global,
+    options: Options,
     src: &mut S,
     out: &mut K,
     noise: &mut N,
@@ -121,42 +82,29 @@ fn run<L: Ledger, S: Source, K: Sink, N: Noise, F: Shelf>(
     requires name { blank.name ≡ L.name }
     requires parts { blank.parts ≡ L.parts }
     requires some { 0 < blank.parts }
-    requires lines { responder.lines ≡ 0 }
-    requires begun { begun ≡ [] }
-    requires room { 0 < length piece.old }
-    requires limit { max < 2 ^ 63 }
-    ensures outcome { Outcome max (S.left src.old) (S.left src.new)
-        (moment 0 (K.written out.old) (N.given noise.old) (N.faults noise.old) responder.session)
+    requires limits { IsWithinLimits options }
+    ensures outcome { Outcome (Some options) (S.left src.old) (S.left src.new)
+        (moment 0 (K.written out.old) (N.given noise.old) (N.faults noise.old))
         (moment result.lines (K.written out.new) (N.given noise.new) (N.faults noise.new)) result.status }
     ensures status { IsStatus result.status }
     ensures words { result.status ≢ 2 }
     ensures read_fault { result.status ≡ 3 → Rose (S.faults src.old) (S.faults src.new) }
     ensures write_fault { result.status ≡ 4 → Rose (K.faults out.old) (K.faults out.new) }
+    ensures source { AskDemo (Some options) → S.faults src.new ≡ S.faults src.old }
     ensures shelf { F.faults shelf.new ≡ F.faults shelf.old }
 {
     let mut steps: Steps<L> = Steps::new(blank);
-    let stop = serve_stream(
-        &mut responder,
-        &mut begun,
-        piece,
-        max,
-        src,
-        out,
-        noise,
-        shelf,
-        &mut steps,
-    );
-    let status = match stop {
-        Stop::ReadFault => READ_FAULT,
-        Stop::WriteFault => WRITE_FAULT,
-        Stop::OverLimit => OVER_LIMIT,
-        Stop::InputEnd => match responder.finish(&begun, out, noise, shelf, &mut steps) {
-            Ok(()) => DONE,
-            Err(_) => WRITE_FAULT,
-        },
-    };
-    Ending {
-        status,
-        lines: responder.lines,
+    match options.demo {
+        Some(n) => run_demo(alloc, n, out, noise, shelf, &mut steps),
+        None => run_input(
+            alloc,
+            options.curator,
+            options.max_bytes,
+            src,
+            out,
+            noise,
+            shelf,
+            &mut steps,
+        ),
     }
 }

@@ -3,6 +3,7 @@ use Rattle.std.specs.Prelude.{option_and_then}
 use Rattle.clap.proofs.OnLiterals.{clap_on_literals}
 use Rattle.program_words.specs.Laws.{DemoValue, MaxBytesValue, WorkedNumbers, options}
 use Rattle.program_words.specs.Numbers.{number_up_to}
+use Rattle.program_words.proofs.WithinLimits.{options_of-limits}
 use Rattle.program_words.proofs.laws.law_word_values.Goals as goal
 
 -- the options of a number, if there is one
@@ -29,3 +30,6 @@ returns-clause-max_bytes c = max_bytes_value
 
 pub returns-clause-numbers : goal.returns-clause-numbers
 returns-clause-numbers c = worked_numbers
+
+pub returns-clause-limits : goal.returns-clause-limits
+returns-clause-limits c = options_of-limits

@@ -1,7 +1,7 @@
 use Rattle.std.proofs.Common.{◌≡◌, ◌∙◌, [], length, refl, take, arith}
 use Rattle.std.proofs.lemmas.List.{length-take-le}
 use Rattle.line_runs.specs.Lines.{open_line}
-use Rattle.wpinq_program.proofs.EndLemmas.{Streaming-start, Streaming-more, Streamed-cut}
+use Rattle.wpinq_program.proofs.StreamLemmas.{Streaming-start, Streaming-more, Streamed-cut}
 use Rattle.wpinq_program.proofs.stream.serve_stream.Goals as goal
 
 pub loop-total-init : goal.loop-total-init

@@ -1,5 +1,5 @@
 use Rattle.std.proofs.Common.{◌≡◌, ◌≤◌, ◌-◌}
-use Rattle.wpinq_program.specs.Outcome.{Streaming}
+use Rattle.wpinq_program.specs.Stream.{Streaming}
 use Rattle.wpinq_program.specs.Served.{responding}
 use Rattle.wpinq_program.proofs.stream.serve_stream.Given as goal
 
