@@ -62,6 +62,15 @@ pub enum Refusal {
     /// Exact answers are the curator's alone.
     #[error("exact answers are not open")]
     Curator,
+    /// The shelf of files failed.
+    #[error("the file can't be read")]
+    File,
+    /// The shelf has no file at the path.
+    #[error("there is no such file")]
+    FileMissing,
+    /// The file has over 16,777,216 bytes.
+    #[error("the file is too long")]
+    FileLong,
     /// The record is not as the source's columns ask.
     #[error("the record {at} is not as it must be")]
     Csv {

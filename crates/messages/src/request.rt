@@ -26,6 +26,12 @@ pub enum Request {
         csv: Bytes,
         header: bool,
     },
+    /// Weights to be added to the source's rows, from the CSV text of the file at this path.
+    Load {
+        source: Name,
+        path: Bytes,
+        header: bool,
+    },
     /// A new plan.
     Plan {
         name: Name,

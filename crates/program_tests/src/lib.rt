@@ -6,6 +6,8 @@ mod demos;
 #[cfg(test)]
 mod joins_groups;
 #[cfg(test)]
+mod loads;
+#[cfg(test)]
 mod measures;
 #[cfg(test)]
 mod plan_steps;

@@ -17,20 +17,32 @@ const EMPTY_SUM_REPLY: &str = "{\"ok\":true,\"sum\":\"0\"}\n";
 /// So many spaces make that line the longest that there may be.
 const SPACES: usize = 1_048_551;
 
-/// Runs the top call under these words over these devices: how it ends, and what was written.
+/// Runs the top call under these words over these devices and a shelf without files: how it ends, and what was
+/// written.
 pub fn run<N: Noise>(
+    alloc: Global,
+    texts: &[&str],
+    source: MemSource,
+    sink: MemSink,
+    noise: &mut N,
+) -> Result<(Ending, String), Fail> {
+    run_with_files(alloc, texts, source, sink, noise, &mut MemShelf::new(alloc))
+}
+
+/// The same with this shelf.
+pub fn run_with_files<N: Noise>(
     alloc: Global,
     texts: &[&str],
     mut source: MemSource,
     mut sink: MemSink,
     noise: &mut N,
+    shelf: &mut MemShelf,
 ) -> Result<(Ending, String), Fail> {
     let mut words = Vec::new(alloc);
     for text in texts {
         words.push(Word::new(String::from_str(alloc, text)?))?;
     }
-    let mut shelf = MemShelf::new(alloc);
-    let ending = wpinq(alloc, &words, &mut source, &mut sink, noise, &mut shelf);
+    let ending = wpinq(alloc, &words, &mut source, &mut sink, noise, shelf);
     let written = Vec::from_slice(alloc, sink.bytes())?;
     Ok((ending, String::from_utf8(written)?))
 }

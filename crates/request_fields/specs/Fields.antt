@@ -14,6 +14,7 @@ use Rattle.record_text.specs.declared.kinds.Kind.TheVariants as kind
 use Rattle.record_text.specs.declared.row_json.RowFault.{RowFault}
 use Rattle.serde_json.specs.Data.{Data, Members}
 use Rattle.serde_json.specs.Find.{get, as_str, as_bool, as_number, as_u64}
+use Rattle.io_edge.specs.Path.{is_path}
 use Rattle.json_fields.specs.Walk.{◌>>=◌, needed, each}
 use Rattle.json_fields.specs.Fields.{list_of, is_text, first_unknown}
 use Rattle.messages.specs.declared.thing.Thing.{Thing}
@@ -67,6 +68,10 @@ whole_in field low high d =
 -- the name that a text is
 unfoldable pub named : List ℕ → List ℕ → Result (List ℕ) Refusal
 named field text = needed (refusal.Name field) (name_of text)
+
+-- the path that a text is
+unfoldable pub path_of : List ℕ → Result (List ℕ) Refusal
+path_of text = if is_path text then Ok text else Err (refusal.Name (codes "path"))
 
 -- which of the fields `plan` and `source` is there, where just one of them is
 abbrev one_of : Option Data → Option Data → Result Thing Refusal

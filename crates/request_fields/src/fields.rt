@@ -2,11 +2,13 @@
 //! reader asks is `Shape` with its name.
 ghost use Rattle.std.specs.Prelude.{◌≤◌, length, IfOk, map};
 ghost use Rattle.serde_json.specs.View.{view, members_view};
+ghost use Rattle.io_edge.specs.Path.{IsPath};
 ghost use Rattle.request_fields.specs.Gives.{Gives, GivesBy};
-ghost use Rattle.request_fields.specs.Fields.{bool_in, flag_in, list_in, named, no_other, shape, text_in, thing_in, whole_in};
+ghost use Rattle.request_fields.specs.Fields.{bool_in, flag_in, list_in, named, no_other, path_of, shape, text_in, thing_in, whole_in};
 
+use io_edge::{is_path, law_path};
 use json_fields::{list_of, unknown_key};
-use messages::{FieldText, ReadFault, Refusal, Thing};
+use messages::{Bytes, FieldText, ReadFault, Refusal, Thing};
 use record_text::Name;
 use serde_json::{Map, Value};
 use std::alloc::Global;
@@ -132,5 +134,22 @@ pub fn named(alloc: Global, field: &str, text: &str) -> Result<Name, ReadFault>
         None => Err(ReadFault::Refused(Refusal::Name {
             field: FieldText::from_string(String::from_str(alloc, field)?),
         })),
+    }
+}
+
+/// The path that this text is. `Name` of the field `path` where it is none.
+#[tactic(auto, unfolding(crate::specs::Fields::path_of))]
+pub fn path_of(alloc: Global, text: &str) -> Result<Bytes, ReadFault>
+    ensures value { Gives result (path_of text.now) }
+    ensures path { IfOk result IsPath }
+{
+    law_path();
+    if is_path(text.as_bytes()) {
+        let path = Vec::from_slice(alloc, text.as_bytes())?;
+        Ok(Bytes::from_vec(path))
+    } else {
+        Err(ReadFault::Refused(Refusal::Name {
+            field: FieldText::from_string(String::from_str(alloc, "path")?),
+        }))
     }
 }

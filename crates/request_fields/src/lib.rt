@@ -5,5 +5,5 @@
 mod fields;
 mod lists;
 
-pub use fields::{boolean, flag, named, only_known, refuse, text, thing, whole};
+pub use fields::{boolean, flag, named, only_known, path_of, refuse, text, thing, whole};
 pub use lists::{kinds, rows, weights};

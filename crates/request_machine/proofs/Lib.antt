@@ -1,7 +1,10 @@
 pub mod Named
 pub mod Outcomes
+pub mod Loading
 pub mod LookedUp
 pub mod MeasureLemmas
 pub mod QuietReading
 pub mod Quiet
+pub mod PlainLines
+pub mod DeviceRefusals
 pub mod MachineLemmas

@@ -1,5 +1,5 @@
 -- Budgets and measurements, case by case.
-use Rattle.std.proofs.Common.{◌≡◌, ℕ, List, [], refl, ap, ap₂, sym, ◌∙◌, Some, None, Option, get_or, ◌-◌}
+use Rattle.std.proofs.Common.{◌≡◌, ℕ, List, [], refl, ap, ap₂, ◌∙◌, Some, None, Option, get_or, ◌-◌}
 use Rattle.datasets.specs.Entries.{Row}
 use Rattle.messages.specs.declared.refusal.Refusal.{Refusal}
 use Rattle.messages.specs.declared.refusal.Refusal.TheVariants as refusal
@@ -10,7 +10,7 @@ use Rattle.request_machine.specs.Declarations.{columns_of}
 use Rattle.request_machine.specs.LookUps.{first_row_fault}
 use Rattle.request_machine.specs.Measures.{budget_reply, measured, measured_unless, measurement}
 use Rattle.request_machine.specs.Named.{place_named, plan_name, source_name}
-use Rattle.request_machine.specs.Stages.{Measured, Stage, Told}
+use Rattle.request_machine.specs.Stages.{Measured, Told}
 use Rattle.request_machine.specs.State.{PlanState, SourceState, State, types_of}
 use Rattle.request_machine.proofs.Named.{named_here, named_nowhere}
 

@@ -1,15 +1,14 @@
 -- What requests come to, case by case.
-use Rattle.std.proofs.Common.{◌≡◌, ◌<◌, ◌≤◌, ◌++◌, ℕ, List, [], ◌∷◌, refl, ap, sym, ◌∙◌, length, Some, None, Ok, Err, Bool, true, false, get_or, Option, Result, arith, zero, suc, rules, nat_le, is_some}
+use Rattle.std.proofs.Common.{◌≡◌, ◌<◌, ◌≤◌, ◌++◌, ℕ, List, [], ◌∷◌, refl, ap, length, Some, None, Bool, true, false, get_or, Option, arith, zero, suc, rules, nat_le, is_some}
 use Rattle.std.specs.List.{remove}
 use Rattle.std.proofs.lemmas.List.Quantifiers.{position-Some}
-use Rattle.csv_changes.specs.Changes.{BadRecord, changes_of}
+use Rattle.csv_changes.specs.Changes.{changes_of}
 use Rattle.plan_model.specs.Acceptance.{plan_fault_of}
 use Rattle.messages.specs.declared.refusal.Refusal.TheVariants as refusal
 use Rattle.messages.specs.declared.thing.Thing.TheVariants as thing
 use Rattle.messages.specs.declared.reply.Reply.TheVariants as reply
-use Rattle.weighted_set.specs.declared.weighted.Weighted.{Weighted}
 use Rattle.request_machine.specs.Declarations.{declared, dropped, misfit_on, planned, planned_at}
-use Rattle.request_machine.specs.Updates.{added_at, updated}
+use Rattle.request_machine.specs.Updates.{updated, updated_by}
 use Rattle.request_machine.specs.Named.{first_named, is_named, place_named, plan_name, source_name}
 use Rattle.request_machine.specs.State.{PlanState, SourceState, State, types_of}
 use Rattle.request_machine.proofs.Named.{index-is, named_here, named_nowhere}
@@ -99,18 +98,13 @@ pub updated_unknown : (state : State) (name csv : List ℕ) (header : Bool) → 
 unfolding updated
 updated_unknown state name csv header none = rw (named_nowhere source_name name state.sources none) refl
 
-pub updated_bad : (state : State) (name csv : List ℕ) (header : Bool) (i : ℕ) (x : SourceState) (bad : BadRecord)
-    → place_named source_name name state.sources ≡ Some i → x ≡ get_or state.sources i x → changes_of csv x.kinds header ≡ Err bad
-    → updated state name csv header ≡ (state, reply.Refused (refusal.Csv bad.at bad.what))
+pub updated_known : (state : State) (name csv : List ℕ) (header : Bool) (i : ℕ) (x : SourceState)
+    → place_named source_name name state.sources ≡ Some i → x ≡ get_or state.sources i x
+    → updated state name csv header ≡ updated_by state i x (changes_of csv x.kinds header)
 unfolding updated
-updated_bad state name csv header i x bad here is e = rw ((named_here source_name name state.sources i x here is).1, e) refl
-
-pub updated_known : (state : State) (name csv : List ℕ) (header : Bool) (i : ℕ) (x : SourceState) (added : List Weighted)
-    → place_named source_name name state.sources ≡ Some i → x ≡ get_or state.sources i x → changes_of csv x.kinds header ≡ Ok added
-    → updated state name csv header ≡ added_at state i x added
-unfolding updated
-updated_known state name csv header i x added here is e =
-    rw ((named_here source_name name state.sources i x here is).1, e) (ap (λ k. added_at state k x added) (index-is source_name name state.sources i here))
+updated_known state name csv header i x here is =
+    rw ((named_here source_name name state.sources i x here is).1)
+    (ap (λ k. updated_by state k x (changes_of csv x.kinds header)) (index-is source_name name state.sources i here))
 
 -- a place that was found is within the list
 pub place_within : {X : Type 0} (name_of : X → List ℕ) (name : List ℕ) (xs : List X) (i : ℕ) → place_named name_of name xs ≡ Some i → i < length xs

@@ -12,7 +12,7 @@ use Rattle.plan_model.specs.declared.step.Step.{Step}
 use Rattle.messages.specs.declared.refusal.Refusal.{Refusal}
 use Rattle.messages.specs.declared.refusal.Refusal.TheVariants as refusal
 use Rattle.request_machine.specs.Named.{source_name}
-use Rattle.request_machine.specs.State.{SourceState, types_of}
+use Rattle.request_machine.specs.State.{SourceState}
 
 -- ---- what a plan uses
 

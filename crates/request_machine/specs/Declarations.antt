@@ -5,7 +5,6 @@ use Rattle.std.specs.Option.{option_map_or}
 use Rattle.ratios.specs.Ratio.{Ratio}
 use Rattle.ratios.specs.Sums.{ratio_sum, first_out_of_range}
 use Rattle.record_text.specs.declared.kinds.Kind.{Kind}
-use Rattle.datasets.specs.Dataset.{at}
 use Rattle.plan_model.specs.Acceptance.{Fault, plan_fault_of}
 use Rattle.plan_model.specs.Evaluation.{last_or}
 use Rattle.plan_model.specs.Fits.{misfit}

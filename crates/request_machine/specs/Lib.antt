@@ -8,6 +8,8 @@ pub mod Updates
 pub mod LookUps
 pub mod Stages
 pub mod Measures
+pub mod Fetches
+pub mod Loads
 pub mod Machine
 pub mod Laws
 pub mod Work

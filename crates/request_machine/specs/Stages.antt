@@ -1,7 +1,6 @@
 -- What a request comes to before noise is drawn, and what comes of it then.
-use Rattle.std.specs.Prelude.{◌≡◌, ◌≤◌, ◌<◌, ℕ, ℤ, ◌+ℤ◌, All, Bool, true, false, nat_lt, List, [], ◌∷◌, length, if◌then◌else◌}
+use Rattle.std.specs.Prelude.{◌≡◌, ◌≤◌, ◌<◌, ℕ, ℤ, ◌+ℤ◌, All, nat_lt, List, [], ◌∷◌, length, if◌then◌else◌}
 use Rattle.ratios.specs.Ratio.{Ratio, ratio_floor_units}
-use Rattle.messages.specs.declared.refusal.Refusal.{Refusal}
 use Rattle.messages.specs.declared.refusal.Refusal.TheVariants as refusal
 use Rattle.messages.specs.declared.reply.Reply.{Reply}
 use Rattle.messages.specs.declared.reply.Reply.TheVariants as reply
@@ -50,8 +49,3 @@ MayTake (Measured m) given = (length given ≤ length m.weights) × All (λ (pai
 abbrev pub LacksNoise : Stage → List ℤ → Type 0
 LacksNoise (Told new answer) drawn = ⊥
 LacksNoise (Measured m) drawn = length drawn < length m.weights
-
--- whether a refusal is for noise
-abbrev pub is_for_noise : Refusal → Bool
-is_for_noise refusal.Noise = true
-is_for_noise why = false

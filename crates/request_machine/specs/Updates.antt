@@ -1,5 +1,5 @@
 -- Weights that are added to a source, and what follows in the plans.
-use Rattle.std.specs.Prelude.{ℕ, Bool, not, List, [], ◌∷◌, length, slice_set, if◌then◌else◌, Option, None, Some, Result, Ok, Err}
+use Rattle.std.specs.Prelude.{ℕ, Bool, List, [], ◌∷◌, length, slice_set, if◌then◌else◌, Option, None, Some, Result, Ok, Err}
 use Rattle.datasets.specs.Dataset.{at, with_added, first_weight_out_of_range, first_negative}
 use Rattle.plan_model.specs.Evaluation.{Family}
 use Rattle.plan_model.specs.Fits.{misfit}

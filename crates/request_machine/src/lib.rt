@@ -6,4 +6,4 @@
 
 mod laws;
 
-pub use laws::{law_noise, law_replies};
+pub use laws::{law_file, law_noise, law_replies};

@@ -297,6 +297,20 @@ fn writes_each_refusal(rt: HostRuntime) -> Result<(), Fail> {
 }
 
 #[test]
+fn writes_refusals_for_files(rt: HostRuntime) -> Result<(), Fail> {
+    let rows = [
+        (Refusal::File, r#"{"ok":false,"why":"file"}"#),
+        (Refusal::FileMissing, r#"{"ok":false,"why":"file_missing"}"#),
+        (Refusal::FileLong, r#"{"ok":false,"why":"file_long"}"#),
+    ];
+    for (refusal, text) in rows {
+        let line = reply_text(rt.alloc(), &Reply::Refused(refusal))?;
+        assert_eq!(rt; line.as_slice(), text.as_bytes());
+    }
+    Ok(())
+}
+
+#[test]
 fn writes_each_refusal_of_plans(rt: HostRuntime) -> Result<(), Fail> {
     let row = Refusal::Shape {
         field: field(rt.alloc(), "row")?,

@@ -30,7 +30,12 @@ fn shown(alloc: Global, request: &Request) -> Result<Vec<u8>, Fail> {
             source,
             csv,
             header,
-        } => update_shown(alloc, source, csv.as_slice(), *header),
+        } => added_shown(alloc, b"update", source, csv.as_slice(), *header),
+        Request::Load {
+            source,
+            path,
+            header,
+        } => added_shown(alloc, b"load", source, path.as_slice(), *header),
         Request::Plan { name, plan } => plan_shown(alloc, name, plan),
         Request::Drop { plan } => words(alloc, &[b"drop", plan.as_bytes()]),
         Request::Measure {
@@ -84,13 +89,20 @@ fn source_shown(
     Ok(text)
 }
 
-fn update_shown(alloc: Global, source: &Name, csv: &[u8], header: bool) -> Result<Vec<u8>, Fail> {
+// The operation's word, the source, what the first record is, and the CSV text or the path.
+fn added_shown(
+    alloc: Global,
+    word: &[u8],
+    source: &Name,
+    from: &[u8],
+    header: bool,
+) -> Result<Vec<u8>, Fail> {
     let first = if header {
         b"header".as_slice()
     } else {
         b"record".as_slice()
     };
-    words(alloc, &[b"update", source.as_bytes(), first, csv])
+    words(alloc, &[word, source.as_bytes(), first, from])
 }
 
 // The name, the number of steps and the source of the first step.
@@ -135,6 +147,14 @@ fn brackets(alloc: Global, depth: usize) -> Result<Vec<u8>, Fail> {
     Ok(line)
 }
 
+// A request to load the file at a path.
+fn load_of(alloc: Global, path: &[u8]) -> Result<Vec<u8>, Fail> {
+    let mut line = Vec::from_slice(alloc, br#"{"op":"load","source":"a","path":""#)?;
+    line.extend_from_slice(path)?;
+    line.extend_from_slice(br#""}"#)?;
+    Ok(line)
+}
+
 // A request of a sum with so many spaces behind it.
 fn spaced(alloc: Global, spaces: usize) -> Result<Vec<u8>, Fail> {
     let mut line = Vec::from_slice(alloc, br#"{"op":"sum","weights":[]}"#)?;
@@ -172,6 +192,14 @@ fn reads_each_request(rt: HostRuntime) -> Result<(), Fail> {
         (
             r#"{"op":"update","source":"p","header":true,"csv":"name,age,weight\n\"Smith, J\",34,1\nÅsa,29,1\n"}"#,
             "update p header name,age,weight\n\"Smith, J\",34,1\nÅsa,29,1\n",
+        ),
+        (
+            r#"{"op":"load","source":"a","path":"d.csv","header":true}"#,
+            "load a header d.csv",
+        ),
+        (
+            r#"{"header":false,"path":"in/2-3/Q_4..csv","source":"b","op":"load"}"#,
+            "load b record in/2-3/Q_4..csv",
         ),
         (
             r#"{"op":"exact","source":"p","rows":[["Smith, J",34],[7]]}"#,
@@ -417,6 +445,84 @@ fn refuses_the_first_fault_of_a_measurement_or_a_budget(rt: HostRuntime) -> Resu
     for (line, reply) in rows {
         let answer = read(rt.alloc(), line.as_bytes())?;
         assert_eq!(rt; answer.as_slice(), reply.as_bytes(), "{line}");
+    }
+    Ok(())
+}
+
+#[test]
+fn refuses_the_first_fault_of_a_load(rt: HostRuntime) -> Result<(), Fail> {
+    let rows = [
+        (
+            r#"{"op":"load","path":"../d.csv","x":1}"#,
+            r#"{"field":"source","ok":false,"why":"shape"}"#,
+        ),
+        (
+            r#"{"op":"load","source":1,"path":1}"#,
+            r#"{"field":"source","ok":false,"why":"shape"}"#,
+        ),
+        (
+            r#"{"op":"load","source":"a","csv":"5,1\n"}"#,
+            r#"{"field":"path","ok":false,"why":"shape"}"#,
+        ),
+        (
+            r#"{"op":"load","source":"a-b","path":["d.csv"],"header":1}"#,
+            r#"{"field":"path","ok":false,"why":"shape"}"#,
+        ),
+        (
+            r#"{"op":"load","source":"a-b","path":"../d.csv","header":1,"csv":""}"#,
+            r#"{"field":"header","ok":false,"why":"shape"}"#,
+        ),
+        (
+            r#"{"op":"load","source":"a-b","path":"../d.csv","csv":""}"#,
+            r#"{"field":"csv","ok":false,"why":"shape"}"#,
+        ),
+        (
+            r#"{"op":"load","source":"a-b","path":"../d.csv"}"#,
+            r#"{"field":"source","ok":false,"why":"name"}"#,
+        ),
+        (
+            r#"{"op":"load","source":"a","path":"../d.csv"}"#,
+            r#"{"field":"path","ok":false,"why":"name"}"#,
+        ),
+    ];
+    for (line, reply) in rows {
+        let answer = read(rt.alloc(), line.as_bytes())?;
+        assert_eq!(rt; answer.as_slice(), reply.as_bytes(), "{line}");
+    }
+    Ok(())
+}
+
+#[test]
+fn refuses_what_is_no_path(rt: HostRuntime) -> Result<(), Fail> {
+    let rows = [
+        "", "/", "a/", "/a", "a//b", ".", "..", ".x", "a/.x", "a/../b", "a b", "a:b", "Å",
+    ];
+    for path in rows {
+        let line = load_of(rt.alloc(), path.as_bytes())?;
+        let answer = read(rt.alloc(), &line)?;
+        assert_eq!(rt;
+            answer.as_slice(),
+            br#"{"field":"path","ok":false,"why":"name"}"#.as_slice(),
+            "{path}"
+        );
+    }
+    Ok(())
+}
+
+#[test]
+fn a_path_has_at_most_200_bytes(rt: HostRuntime) -> Result<(), Fail> {
+    let most = vec![in rt.alloc(); b'a'; 200]?;
+    let taken = words(rt.alloc(), &[b"load a record", &most])?;
+    let over = vec![in rt.alloc(); b'a'; 201]?;
+    let refused = br#"{"field":"path","ok":false,"why":"name"}"#;
+    let rows = [
+        (most.as_slice(), taken.as_slice()),
+        (over.as_slice(), refused.as_slice()),
+    ];
+    for (path, text) in rows {
+        let line = load_of(rt.alloc(), path)?;
+        let answer = read(rt.alloc(), &line)?;
+        assert_eq!(rt; answer.as_slice(), text);
     }
     Ok(())
 }

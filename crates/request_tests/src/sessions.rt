@@ -22,6 +22,7 @@ const ONE_MORE: &str =
 fn has_reply<L: Ledger>(
     alloc: Global,
     session: &mut Session,
+    shelf: &mut MemShelf,
     line: &str,
     wanted: &str,
     steps: &mut Steps<L>,
@@ -29,9 +30,8 @@ fn has_reply<L: Ledger>(
     requires { 0 < length line.now }
 {
     let mut noise = SureNoise::new();
-    let mut shelf = MemShelf::new(alloc);
     let mut reply = Vec::new(alloc);
-    session.answer(line.as_bytes(), &mut noise, &mut shelf, &mut reply, steps)?;
+    session.answer(line.as_bytes(), &mut noise, shelf, &mut reply, steps)?;
     Ok(reply.pop() == Some(b'\n') && reply.as_slice() == wanted.as_bytes())
 }
 
@@ -39,12 +39,13 @@ fn has_reply<L: Ledger>(
 fn first_wrong_in<L: Ledger>(
     alloc: Global,
     session: &mut Session,
+    shelf: &mut MemShelf,
     rows: &[(String, String)],
     steps: &mut Steps<L>,
 ) -> Result<Option<usize>, Fail> {
     for (at, (line, wanted)) in rows.iter().enumerate() {
         let (line, wanted) = (line.as_str(), wanted.as_str());
-        if line.is_empty() || !has_reply(alloc, session, line, wanted, steps)? {
+        if line.is_empty() || !has_reply(alloc, session, shelf, line, wanted, steps)? {
             return Ok(Some(at));
         }
     }
@@ -55,6 +56,7 @@ fn first_wrong_in<L: Ledger>(
 fn first_wrong_counted<L: Ledger>(
     alloc: Global,
     blank: Blank,
+    shelf: &mut MemShelf,
     rows: &[(String, String)],
 ) -> Result<Option<usize>, Fail>
     requires name { blank.name ≡ L.name }
@@ -63,12 +65,13 @@ fn first_wrong_counted<L: Ledger>(
 {
     let mut steps: Steps<L> = Steps::new(blank);
     let mut session = Session::new(alloc, true)?;
-    first_wrong_in(alloc, &mut session, rows, &mut steps)
+    first_wrong_in(alloc, &mut session, shelf, rows, &mut steps)
 }
 
-// The same with a counter of its own.
+// The same with a counter of its own, and a shelf without files.
 fn first_wrong(alloc: Global, rows: &[(String, String)]) -> Result<Option<usize>, Fail> {
-    first_wrong_counted::<Brand>(alloc, Blank::new(1), rows)
+    let mut shelf = MemShelf::new(alloc);
+    first_wrong_counted::<Brand>(alloc, Blank::new(1), &mut shelf, rows)
 }
 
 fn owned_row(alloc: Global, line: &str, reply: &str) -> Result<(String, String), Fail> {
@@ -89,6 +92,20 @@ fn owned(alloc: Global, rows: &[(&str, &str)]) -> Result<Vec<(String, String)>, 
 fn first_wrong_of(alloc: Global, rows: &[(&str, &str)]) -> Result<Option<usize>, Fail> {
     let rows = owned(alloc, rows)?;
     first_wrong(alloc, &rows)
+}
+
+// The same with a shelf that has two files, of which one is a byte too long, and that fails at the call of this number.
+fn first_wrong_with_files(
+    alloc: Global,
+    fails_at: u64,
+    rows: &[(&str, &str)],
+) -> Result<Option<usize>, Fail> {
+    let mut shelf = MemShelf::new(alloc);
+    shelf.put(b"d.csv", Vec::from_slice(alloc, b"n,w\n5,1\n")?)?;
+    shelf.put(b"long.csv", vec![in alloc; b'1'; 16_777_217]?)?;
+    shelf.fail_at(fails_at)?;
+    let rows = owned(alloc, rows)?;
+    first_wrong_counted::<Brand>(alloc, Blank::new(1), &mut shelf, &rows)
 }
 
 #[test]
@@ -246,5 +263,42 @@ fn plan_rows(alloc: Global, count: usize) -> Result<Vec<(String, String)>, Fail>
 fn the_33rd_plan_is_refused(rt: HostRuntime) -> Result<(), Fail> {
     let rows = plan_rows(rt.alloc(), 32)?;
     assert_eq!(rt; first_wrong(rt.alloc(), &rows)?, None);
+    Ok(())
+}
+
+#[test]
+fn a_file_is_loaded_or_refused(rt: HostRuntime) -> Result<(), Fail> {
+    let load = r#"{"op":"load","source":"a","path":"d.csv","header":true}"#;
+    let look = r#"{"op":"exact","source":"a","rows":[[5]]}"#;
+    let rows = [
+        (
+            load,
+            r#"{"name":"a","ok":false,"what":"source","why":"unknown"}"#,
+        ),
+        (SOURCE, DONE),
+        (load, r#"{"ok":true,"records":1}"#),
+        (look, r#"{"ok":true,"weights":["1"]}"#),
+        (
+            r#"{"op":"load","source":"a","path":"e.csv","header":true}"#,
+            r#"{"ok":false,"why":"file_missing"}"#,
+        ),
+        (
+            r#"{"op":"load","source":"a","path":"long.csv"}"#,
+            r#"{"ok":false,"why":"file_long"}"#,
+        ),
+        (
+            r#"{"op":"load","source":"a","path":"../d.csv"}"#,
+            r#"{"field":"path","ok":false,"why":"name"}"#,
+        ),
+        (
+            r#"{"op":"load","source":"a","path":"d.csv"}"#,
+            r#"{"ok":false,"record":0,"what":"int","why":"csv"}"#,
+        ),
+        (look, r#"{"ok":true,"weights":["1"]}"#),
+        (load, r#"{"ok":false,"why":"file"}"#),
+        (load, r#"{"ok":true,"records":1}"#),
+        (look, r#"{"ok":true,"weights":["2"]}"#),
+    ];
+    assert_eq!(rt; first_wrong_with_files(rt.alloc(), 4, &rows)?, None);
     Ok(())
 }

@@ -12,6 +12,7 @@ op_named name =
     if bytes_eq name (codes "sum") then Some op.Sum
     else if bytes_eq name (codes "source") then Some op.Source
     else if bytes_eq name (codes "update") then Some op.Update
+    else if bytes_eq name (codes "load") then Some op.Load
     else if bytes_eq name (codes "plan") then Some op.Plan
     else if bytes_eq name (codes "drop") then Some op.Drop
     else if bytes_eq name (codes "measure") then Some op.Measure
@@ -28,6 +29,7 @@ unfoldable pub op_fields : Op → List (List ℕ)
 op_fields op.Sum = codes "op" ∷ codes "weights" ∷ []
 op_fields op.Source = codes "op" ∷ codes "name" ∷ codes "kinds" ∷ codes "signed" ∷ codes "budget" ∷ []
 op_fields op.Update = codes "op" ∷ codes "source" ∷ codes "csv" ∷ codes "header" ∷ []
+op_fields op.Load = codes "op" ∷ codes "source" ∷ codes "path" ∷ codes "header" ∷ []
 op_fields op.Plan = codes "op" ∷ codes "name" ∷ codes "plan" ∷ []
 op_fields op.Drop = codes "op" ∷ codes "plan" ∷ []
 op_fields op.Measure = codes "op" ∷ codes "plan" ∷ codes "rows" ∷ codes "epsilon" ∷ []

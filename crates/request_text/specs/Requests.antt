@@ -4,6 +4,7 @@ use Rattle.std.specs.Str.{is_utf8}
 use Rattle.serde_json.specs.Data.{Data, Members}
 use Rattle.serde_json.specs.Find.{as_object}
 use Rattle.serde_json.specs.Read.{read}
+use Rattle.io_edge.specs.Path.{IsPath}
 use Rattle.json_fields.specs.Walk.{◌>>=◌, needed}
 use Rattle.plan_model.specs.Limits.{is_plan}
 use Rattle.messages.specs.Words.{thing_word}
@@ -15,7 +16,7 @@ use Rattle.messages.specs.declared.target.Target.{Target}
 use Rattle.messages.specs.declared.target.Target.TheVariants as target
 use Rattle.messages.specs.declared.request.Request.{Request}
 use Rattle.messages.specs.declared.request.Request.TheVariants as request
-use Rattle.request_fields.specs.Fields.{bool_in, flag_in, kinds_in, max_rows, named, no_other, rows_in, shape_fault, text_in, thing_in, weights_in, whole_in}
+use Rattle.request_fields.specs.Fields.{bool_in, flag_in, kinds_in, max_rows, named, no_other, path_of, rows_in, shape_fault, text_in, thing_in, weights_in, whole_in}
 use Rattle.request_text.specs.Ops.{op_fields, op_of}
 use Rattle.request_text.specs.Plans.{plan_field}
 use Rattle.request_text.specs.declared.op.Op.{Op}
@@ -54,6 +55,17 @@ update_in d ms = do
   known ← no_other (op_fields op.Update) ms
   source ← named (codes "source") text
   Ok (request.Update source csv header)
+
+-- the same from the file at a path
+unfoldable pub load_in : Data → Members → Result Request Refusal
+load_in d ms = do
+  text ← text_in (codes "source") d
+  path ← text_in (codes "path") d
+  header ← flag_in (codes "header") d
+  known ← no_other (op_fields op.Load) ms
+  source ← named (codes "source") text
+  path ← path_of path
+  Ok (request.Load source path header)
 
 -- a new plan
 unfoldable pub plan_in : Data → Members → Result Request Refusal
@@ -114,6 +126,7 @@ abbrev pub request_in : Data → Members → Op → Result Request Refusal
 request_in d ms op.Sum = sum_in d ms
 request_in d ms op.Source = source_in d ms
 request_in d ms op.Update = update_in d ms
+request_in d ms op.Load = load_in d ms
 request_in d ms op.Plan = plan_in d ms
 request_in d ms op.Drop = drop_in d ms
 request_in d ms op.Measure = measure_in d ms
@@ -148,6 +161,7 @@ abbrev pub IsWithinLimits : Request → Type 0
 IsWithinLimits (request.Sum weights) = ⊤
 IsWithinLimits (request.Source name kinds signed budget) = budget ≤ max_budget
 IsWithinLimits (request.Update source csv header) = ⊤
+IsWithinLimits (request.Load source path header) = IsPath path
 IsWithinLimits (request.Plan name plan) = IsTrue (is_plan plan)
 IsWithinLimits (request.Drop plan) = ⊤
 IsWithinLimits (request.Measure plan rows epsilon) =

@@ -11,6 +11,7 @@ pub enum Op {
     Sum,
     Source,
     Update,
+    Load,
     Plan,
     Drop,
     Measure,
@@ -39,6 +40,8 @@ fn op_named(name: &str) -> Option<Op>
         Some(Op::Source)
     } else if name == "update" {
         Some(Op::Update)
+    } else if name == "load" {
+        Some(Op::Load)
     } else if name == "plan" {
         Some(Op::Plan)
     } else if name == "drop" {
@@ -63,6 +66,7 @@ pub fn fields(op: Op) -> &'static [&'static str]
         Op::Sum => &["op", "weights"],
         Op::Source => &["op", "name", "kinds", "signed", "budget"],
         Op::Update => &["op", "source", "csv", "header"],
+        Op::Load => &["op", "source", "path", "header"],
         Op::Plan => &["op", "name", "plan"],
         Op::Drop => &["op", "plan"],
         Op::Measure => &["op", "plan", "rows", "epsilon"],

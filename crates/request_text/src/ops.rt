@@ -3,13 +3,15 @@
 ghost use Rattle.std.specs.Prelude.{◌≡◌, IfOk};
 ghost use Rattle.serde_json.specs.View.{view, members_view};
 ghost use Rattle.request_fields.specs.Gives.{Gives};
-ghost use Rattle.request_text.specs.Requests.{IsWithinLimits, budget_in, drop_in, exact_in, measure_in, plan_in, source_in, sum_in, target_named, update_in};
+ghost use Rattle.request_text.specs.Requests.{IsWithinLimits, budget_in, drop_in, exact_in, load_in, measure_in, plan_in, source_in, sum_in, target_named, update_in};
 
 use crate::op::{Op, fields};
 use crate::plans::plan;
 use messages::{Bytes, ReadFault, Request, Target, Thing};
 use record_text::Name;
-use request_fields::{boolean, flag, kinds, named, only_known, rows, text, thing, weights, whole};
+use request_fields::{
+    boolean, flag, kinds, named, only_known, path_of, rows, text, thing, weights, whole,
+};
 use serde_json::{Map, Value};
 use std::alloc::Global;
 
@@ -73,6 +75,29 @@ pub fn update(
     Ok(Request::Update {
         source,
         csv,
+        header,
+    })
+}
+
+/// Weights to be added to a source, from the file at a path.
+#[tactic(auto, unfolding(crate::specs::Requests::load_in))]
+pub fn load(
+    alloc: Global,
+    value: &Value,
+    members: &Map<String, Value>,
+) -> Result<Request, ReadFault>
+    ensures value { Gives result (load_in (view value.now) (members_view members.now.entries)) }
+    ensures limits { IfOk result IsWithinLimits }
+{
+    let source = text(alloc, value, "source")?;
+    let path = text(alloc, value, "path")?;
+    let header = flag(alloc, value, "header")?;
+    only_known(alloc, members, fields(Op::Load))?;
+    let source = named(alloc, "source", source)?;
+    let path = path_of(alloc, path)?;
+    Ok(Request::Load {
+        source,
+        path,
         header,
     })
 }

@@ -5,7 +5,7 @@ ghost use Rattle.request_fields.specs.Gives.{Gives};
 ghost use Rattle.request_text.specs.Requests.{IsWithinLimits, request_in_json, request_of, request_on};
 
 use crate::op::{Op, op_of};
-use crate::ops::{budget, drop_plan, exact, measure, new_plan, source, sum, update};
+use crate::ops::{budget, drop_plan, exact, load, measure, new_plan, source, sum, update};
 use messages::{ReadFault, Refusal, Request};
 use request_fields::refuse;
 use serde_json::Value;
@@ -61,6 +61,7 @@ fn request(alloc: Global, value: &Value) -> Result<Request, ReadFault>
             Op::Sum => sum(alloc, value, members),
             Op::Source => source(alloc, value, members),
             Op::Update => update(alloc, value, members),
+            Op::Load => load(alloc, value, members),
             Op::Plan => new_plan(alloc, value, members),
             Op::Drop => drop_plan(alloc, value, members),
             Op::Measure => measure(alloc, value, members),

@@ -8,7 +8,6 @@ use Rattle.weighted_set.specs.Changes.{entries_of}
 use Rattle.weighted_set.specs.declared.weighted.Change.{Change}
 use Rattle.weighted_set.specs.declared.weighted.Weighted.{Weighted}
 use Rattle.messages.specs.declared.refusal.Refusal.TheVariants as refusal
-use Rattle.messages.specs.declared.reply.Reply.{Reply}
 use Rattle.messages.specs.declared.reply.Reply.TheVariants as reply
 use Rattle.session_data.specs.Held.{HeldSources}
 use Rattle.request_machine.specs.Updates.{added_at, below_zero, first_misfit, updated_at, with_source, with_weights}

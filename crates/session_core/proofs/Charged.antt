@@ -1,5 +1,5 @@
 -- Parts whose sources are charged.
-use Rattle.std.proofs.Common.{◌≡◌, ℕ, List, [], ◌∷◌, refl, sym, ap, subst, ◌∙◌}
+use Rattle.std.proofs.Common.{◌≡◌, List, [], ◌∷◌, refl, sym, ap, subst, ◌∙◌}
 use Rattle.std.specs.Prelude.{All}
 use Rattle.std.proofs.lemmas.List.Elements.{All-cons, All-head, All-nil, All-tail}
 use Rattle.budget_book.specs.Asks.{charged}
@@ -12,7 +12,7 @@ use Rattle.request_machine.specs.Charges.{after_charges, book_of, with_book}
 use Rattle.request_machine.specs.Sound.{IsSoundSource}
 use Rattle.request_machine.specs.State.{SourceState, family_of, type_of, types_of}
 use Rattle.session_data.specs.Held.{HeldSources}
-use Rattle.session_data.specs.Planned.{IsSettled, plan_states}
+use Rattle.session_data.specs.Planned.{IsSettled}
 use Rattle.session_core.specs.Parts.{AreSettled, state_of}
 use Rattle.session_core.specs.declared.parts.Parts.{Parts}
 use Rattle.session_core.proofs.Added.{held_is}

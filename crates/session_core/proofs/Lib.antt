@@ -5,6 +5,7 @@ pub mod ShortBudgets
 pub mod Kept
 pub mod ComesTo
 pub mod Measuring
+pub mod Fetched
 pub mod AnswerLemmas
 pub mod Declared
 pub mod Aborted

@@ -1,19 +1,17 @@
 -- What a measurement comes to, by what was drawn for it.
-use Rattle.std.proofs.Common.{◌≡◌, ◌<◌, ◌≤◌, ℕ, List, [], refl, sym, ap, ap₂, subst, ◌∙◌, arith, length, cond, nat_lt, true, false, Bool, Option, None, Some, Ok, Err, Result, lt-ltb, rules}
+use Rattle.std.proofs.Common.{◌≡◌, ◌<◌, ℕ, List, [], refl, sym, ap, ap₂, ◌∙◌, arith, length, cond, nat_lt, false, Bool, Option, None, Some, Ok, Err, lt-ltb, rules}
 use Rattle.std.specs.Prelude.{ℤ}
 use Rattle.std.specs.declared.alloc.AllocError.{AllocError}
 use lib.ListN.{length-map}
-use Rattle.budget_book.specs.declared.ask.Ask.{Ask}
 use Rattle.io_edge.proofs.KnownLemmas.{Gains-none}
 use Rattle.messages.specs.declared.refusal.Refusal.TheVariants as refusal
 use Rattle.messages.specs.declared.reply.Reply.{Reply}
 use Rattle.messages.specs.declared.reply.Reply.TheVariants as reply
-use Rattle.request_machine.specs.Stages.{LacksNoise, MayTake, Measured, Measurement, Stage, Told, finished, released}
+use Rattle.request_machine.specs.Stages.{MayTake, Measured, Measurement, Stage, Told, finished, released}
 use Rattle.request_machine.specs.State.{State}
 use Rattle.session_core.specs.Draws.{Draws, Responds, numbers}
-use Rattle.session_core.specs.Outcomes.{AreReady, ComesTo, Does, state_after}
+use Rattle.session_core.specs.Outcomes.{AreReady, state_after}
 use Rattle.session_core.specs.Parts.{AreSettled, state_of}
-use Rattle.session_core.specs.declared.outcome.Effect.{Effect}
 use Rattle.session_core.specs.declared.outcome.Effect.TheVariants as effect
 use Rattle.session_core.specs.declared.outcome.Outcome.{Outcome}
 use Rattle.session_core.specs.declared.parts.Parts.{Parts}

@@ -1,5 +1,5 @@
 -- Parts with one plan more, and the sources that a plan uses.
-use Rattle.std.proofs.Common.{◌≡◌, ◌<◌, ◌≤◌, ◌+◌, ℕ, zero, suc, List, [], ◌∷◌, ◌++◌, Bool, false, refl, sym, ap, ap₂, subst, ◌∙◌, arith, cond, filter, get_or, length, map, nat_lt, take, zip, None, Option, Some, Ok, if◌then◌else◌, append-nil, length-append, lt-ltb, rules, vec_capacity, vec_len}
+use Rattle.std.proofs.Common.{◌≡◌, ◌<◌, ◌≤◌, ◌+◌, ℕ, List, [], ◌∷◌, ◌++◌, Bool, false, sym, ap, ap₂, subst, ◌∙◌, arith, cond, length, map, nat_lt, take, None, Option, Some, if◌then◌else◌, append-nil, length-append, lt-ltb, rules, vec_capacity, vec_len}
 use Rattle.std.specs.Prelude.{All, slice_get}
 use Rattle.std.specs.List.{IsDistinct, list_any, range_with_len}
 use Rattle.std.specs.Cmp.Lexicographic.{lists_equiv}
@@ -7,25 +7,22 @@ use Rattle.std.proofs.lemmas.Cmp.{nat_eq_equiv}
 use Rattle.std.proofs.lemmas.List.{length-take-le, map-append, take_all, take_more}
 use Rattle.std.proofs.lemmas.Option.{get_or_from_slice_get, slice_get_within}
 use Rattle.std.proofs.lemmas.List.FromFn.{length-range_with_len}
-use Rattle.std.proofs.lemmas.List.Elements.{All-push, filter_more}
+use Rattle.std.proofs.lemmas.List.Elements.{All-push}
 use Rattle.std.proofs.lemmas.Map.Keys.{IsDistinct-push}
 use lib.ListN.{length-map}
 use Rattle.indexmap.specs.IndexSet.{insert_key, spare}
 use Rattle.record_text.specs.Names.{name_eq}
 use Rattle.record_text.specs.declared.kinds.Kind.{Kind}
-use Rattle.budget_book.specs.declared.ask.Ask.{Ask}
 use Rattle.plan_checker.specs.Checked.{CheckedPlan, IsChecked}
 use Rattle.plan_model.specs.Acceptance.{Accepts, Fault, plan_fault_of}
 use Rattle.plan_model.specs.Uses.{uses}
-use Rattle.plan_model.specs.declared.source_types.SourceType.{SourceType}
 use Rattle.plan_model.specs.declared.step.Step.{Step}
 use Rattle.messages.specs.declared.refusal.Refusal.TheVariants as refusal
-use Rattle.messages.specs.declared.reply.Reply.{Reply}
 use Rattle.messages.specs.declared.reply.Reply.TheVariants as reply
 use Rattle.session_data.specs.Held.{HeldSources}
 use Rattle.request_machine.specs.Charges.{ask_of, asks_from, by_name}
 use Rattle.request_machine.specs.Declarations.{misfit_on, planned, planned_at, planned_reply}
-use Rattle.request_machine.specs.Named.{plan_name, source_name}
+use Rattle.request_machine.specs.Named.{plan_name}
 use Rattle.session_core.specs.Parts.{AreSettled, IsNewPlan, state_of}
 use Rattle.session_data.specs.Planned.{IsSettled, plan_state, plan_states}
 use Rattle.request_machine.specs.Sound.{Sound}

@@ -1,8 +1,8 @@
 -- Weights that are released with noise, one after another.
-use Rattle.std.proofs.Common.{◌≡◌, ◌<◌, ◌≤◌, ℕ, suc, ◌+◌, List, [], ◌∷◌, ◌++◌, refl, sym, ap, ap₂, subst, ◌∙◌, arith, length, length-append, map, take, drop, get_or, true, false, Option, None, Some, Ok, Err, Result, lt-ltb, cond, nat_lt, rules}
+use Rattle.std.proofs.Common.{◌≡◌, ◌<◌, ◌≤◌, ℕ, ◌+◌, List, [], ◌∷◌, ◌++◌, refl, sym, ap, ap₂, ◌∙◌, arith, length, length-append, take, get_or, Option, Err}
 use Rattle.std.specs.Prelude.{All, ℤ}
 use Rattle.std.specs.declared.alloc.AllocError.{AllocError}
-use Rattle.std.proofs.lemmas.List.{length-take-le, map-append, take_all, take_more}
+use Rattle.std.proofs.lemmas.List.{length-take-le, map-append, take_more}
 use Rattle.std.proofs.lemmas.List.Elements.{All-nil, All-push}
 use lib.ListN.{length-map}
 use Rattle.io_edge.specs.Known.{Gains}

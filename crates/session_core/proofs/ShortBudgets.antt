@@ -1,5 +1,5 @@
 -- The first source that is short.
-use Rattle.std.proofs.Common.{◌≡◌, ◌<◌, ℕ, ◌+◌, List, [], ◌∷◌, Bool, true, false, refl, sym, ap, subst, ◌∙◌, cond, find, Option, None, Some}
+use Rattle.std.proofs.Common.{◌≡◌, ◌<◌, ℕ, ◌+◌, List, [], ◌∷◌, true, false, subst, cond, find, Some}
 use Rattle.std.specs.Option.{option_map}
 use Rattle.budget_book.specs.Asks.{AreAsksFrom, first_short, is_short, short_of}
 use Rattle.budget_book.specs.declared.ask.Ask.{Ask}

@@ -4,7 +4,6 @@ use Rattle.std.specs.declared.alloc.AllocError.{AllocError}
 use Rattle.io_edge.specs.Causes.{Rose}
 use Rattle.io_edge.specs.Known.{Gains}
 use Rattle.ratios.specs.Ratio.{Ratio}
-use Rattle.messages.specs.declared.reply.Reply.TheVariants as reply
 use Rattle.request_machine.specs.Stages.{LacksNoise, MayTake, Stage, finished, released}
 use Rattle.session_core.specs.Outcomes.{Does}
 use Rattle.session_core.specs.Parts.{state_of}

@@ -10,7 +10,7 @@ use Rattle.request_machine.specs.Limits.{max_plans}
 use Rattle.request_machine.specs.Named.{place_named, plan_name}
 use Rattle.session_data.specs.Planned.{Holds, IsPrepared, IsSettled, plan_states}
 use Rattle.request_machine.specs.Sound.{Sound}
-use Rattle.request_machine.specs.State.{SourceState, State, family_of, types_of}
+use Rattle.request_machine.specs.State.{State, family_of, types_of}
 use Rattle.session_core.specs.declared.parts.Parts.{Parts}
 
 -- the state that parts stand for

@@ -5,12 +5,13 @@
 mod declare;
 mod effects;
 mod exact;
+mod load;
 mod measure;
 mod outcome;
 mod parts;
 mod session;
 mod update;
 
-pub use request_machine::{law_noise, law_replies};
+pub use request_machine::{law_file, law_noise, law_replies};
 pub use request_text::{MAX_LINE, Memory};
 pub use session::Session;

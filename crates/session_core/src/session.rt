@@ -1,8 +1,9 @@
 //! The session: one line in, one reply out.
-ghost use Rattle.std.specs.Prelude.{◌≡◌, ◌+◌, ◌<◌, ◌≤◌, ℕ, [], IfOk, OnErr, OnOk, Some, length};
+ghost use Rattle.std.specs.Prelude.{◌≡◌, ◌+◌, ◌<◌, ◌≤◌, ℕ, [], false, IfOk, OnErr, OnOk, Some, length};
 ghost use Rattle.request_text.specs.Requests.{request_on};
 ghost use Rattle.io_edge.specs.Causes.{Rose};
-ghost use Rattle.request_machine.specs.Machine.{LineAnswered, noise_line};
+ghost use Rattle.request_machine.specs.Fetches.{is_load};
+ghost use Rattle.request_machine.specs.Machine.{LineAnswered, file_line, noise_line};
 ghost use Rattle.request_machine.specs.Sound.{Sound};
 ghost use Rattle.request_machine.specs.State.{start_state};
 ghost use Rattle.request_machine.specs.Work.{step_bound};
@@ -39,9 +40,9 @@ impl Model for Session {
 }
 
 impl Session {
-    /// A session without sources and plans. It takes the room for the names of 16 sources and of 32 plans, for
-    /// the budgets of the sources, and for the list of the plans. What else a declaration needs, it takes when it
-    /// comes, and gives it back where there is no memory for the rest.
+    /// A session without sources and plans. It takes the room of the tables of names for 16 sources and 32 plans, and
+    /// that of the list of the plans. What else a declaration needs, it takes when it comes, and gives it back where
+    /// there is no memory for the rest.
     pub fn new(alloc: Global, curator: bool) -> Result<Session, Memory>
         ensures { IfOk result (λ session. session ≡ start_state curator) }
     {
@@ -50,8 +51,9 @@ impl Session {
     }
 
     /// Leaves the line's reply with its LF in `reply`, which is emptied first. A reply that refuses leaves
-    /// the session unchanged. After `Memory` it is unchanged too, and `reply` is empty; noise that was drawn stays
-    /// drawn.
+    /// the session unchanged. After `Memory` it is unchanged too, and `reply` is empty. Noise that was drawn stays
+    /// drawn, and a file that was fetched stays fetched. Only a `load` asks the shelf, for a file of at most
+    /// 16,777,216 bytes.
     pub fn answer<N: Noise, F: Shelf, L: Ledger>(
         &mut self,
         line: &[u8],
@@ -61,7 +63,8 @@ impl Session {
         steps: &mut Steps<L>,
     ) -> Result<(), Memory>
         requires { 0 < length line.now }
-        ensures answered { LineAnswered (N.given noise.old) (N.given noise.new)
+        ensures answered { LineAnswered (F.files shelf.old) (F.faults shelf.old) (F.faults shelf.new)
+            (N.given noise.old) (N.given noise.new)
             self.old line.now result reply.new.items self.new }
         ensures sound { Sound self.new }
         ensures work { (n : ℕ) → step_bound (request_on line.now) ≡ Some n → steps.new ≤ steps.old + n }
@@ -69,8 +72,12 @@ impl Session {
         ensures later { N.faults noise.old ≤ N.faults noise.new }
         ensures noise { OnOk result
             (reply.new.items ≡ noise_line → Rose (N.faults noise.old) (N.faults noise.new)) }
-        ensures shelf { F.faults shelf.new ≡ F.faults shelf.old }
+        ensures files { F.files shelf.new ≡ F.files shelf.old }
+        ensures shelf { F.faults shelf.old ≤ F.faults shelf.new }
+        ensures file { OnOk result
+            (reply.new.items ≡ file_line → Rose (F.faults shelf.old) (F.faults shelf.new)) }
+        ensures untouched { is_load (request_on line.now) ≡ false → shelf.new ≡ shelf.old }
     {
-        self.parts.answer(line, noise, reply, steps)
+        self.parts.answer(line, noise, shelf, reply, steps)
     }
 }

@@ -1,15 +1,17 @@
 //! Weights that are added to a source, and what follows from them in the plans.
-ghost use Rattle.std.specs.Prelude.{◌≡◌, ◌<◌, All, length};
+ghost use Rattle.std.specs.Prelude.{◌≡◌, ◌<◌, All, IfOk, List, Result, length};
+ghost use Rattle.csv_changes.specs.Changes.{BadRecord, GivesCsv};
 ghost use Rattle.record_text.specs.KindLists.{kinds_of};
 ghost use Rattle.request_machine.specs.State.{OfSource};
-ghost use Rattle.request_machine.specs.Updates.{added_at, followed, updated};
+ghost use Rattle.request_machine.specs.Updates.{added_at, followed, updated, updated_by};
+ghost use Rattle.weighted_set.specs.declared.weighted.Weighted.{Weighted};
 ghost use Rattle.session_core.specs.Outcomes.{Does};
 ghost use Rattle.session_core.specs.Parts.{ArePending, AreSettled, state_of};
 
 use crate::outcome::{Effect, Outcome};
 use crate::parts::Parts;
 use record_text::Name;
-use request_text::{Bytes, CsvFault, Memory, Refusal, Reply, Thing, read_changes};
+use request_text::{Added, Bytes, CsvFault, Memory, Refusal, Reply, Thing, read_changes};
 use session_data::{PlansFault, prepare_all};
 use std::sync::ledger::Ledger;
 use steps::Steps;
@@ -33,7 +35,25 @@ impl Parts {
             return Ok(Outcome::refused(Refusal::Unknown { what, name }));
         };
         let kinds = self.sources.source_type(at).kinds;
-        match read_changes(self.alloc, csv.as_slice(), kinds, header) {
+        let read = read_changes(self.alloc, csv.as_slice(), kinds, header);
+        self.add_read(at, read, steps)
+    }
+
+    /// What it comes to that the weights that a CSV text was read as are to be added to the source at a place.
+    pub fn add_read<L: Ledger>(
+        &mut self,
+        at: usize,
+        read: Result<Added, CsvFault>,
+        steps: &mut Steps<L>,
+    ) -> Result<Outcome, Memory>
+        requires settled { AreSettled self.old }
+        requires place { at < length self.old.sources.committed }
+        requires kinds { OfSource self.old.sources.committed at
+            (λ source. IfOk read (All (λ one. kinds_of one.row ≡ source.kinds))) }
+        ensures { OfSource self.old.sources.committed at (λ source. (changes : Result (List Weighted) BadRecord)
+            → GivesCsv read changes → Does result self.old self.new (updated_by (state_of self.old) at source changes)) }
+    {
+        match read {
             Ok(added) => self.add(at, added.as_slice(), steps),
             Err(CsvFault::Bad { at, what }) => Ok(Outcome::refused(Refusal::Csv { at, what })),
             Err(CsvFault::Memory) => Err(Memory),

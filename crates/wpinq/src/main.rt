@@ -1,7 +1,8 @@
-//! The program: the top call over standard input and standard output, and noise from a file.
+//! The program: the top call over standard input and standard output, with noise from a file and the files of the
+//! working folder.
 #![tactic(auto)]
 
-use io_edge::{MemShelf, StdSink, StdSource};
+use io_edge::{FolderShelf, StdSink, StdSource};
 use noise_lines::{FileSource, LineNoise, NOISE_FILE};
 use std::process::ExitCode;
 use std::{env, io};
@@ -34,12 +35,13 @@ fn read_words(rt: &HostRuntime) -> io::Result<Vec<Word>> {
     Ok(words)
 }
 
-/// Answers standard input on standard output, with noise from the lines of `wpinq.noise`, and gives the status.
+/// Answers standard input on standard output, with noise from the lines of `wpinq.noise` and the files of the working
+/// folder, and gives the status.
 fn answer(rt: &HostRuntime, words: &[Word]) -> u8 {
     let mut source = StdSource::new(rt.stdin());
     let mut sink = StdSink::new(rt.stdout());
     let mut noise = LineNoise::new(rt.alloc(), FileSource::new(rt, NOISE_FILE));
-    let mut shelf = MemShelf::new(rt.alloc());
+    let mut shelf = FolderShelf::new(rt);
     let ending = wpinq(
         rt.alloc(),
         words,

@@ -1,10 +1,11 @@
 -- Lines of which only the last replies are written.
 use Rattle.std.proofs.Common.{◌≡◌, ℕ, Bool, true, false, List, [], ◌∷◌, ◌++◌, refl, ap, sym, ◌∙◌, append_assoc, ◌<◌, ◌+◌, ◌-◌, cond, length, drop, arith}
-use Rattle.std.specs.Prelude.{All, Err, Ok, Result, nat_lt}
+use Rattle.std.specs.Prelude.{Option, All, Err, Ok, Result, nat_lt}
 use Rattle.std.proofs.lemmas.Bool.{lt-ltb}
 use Rattle.std.proofs.lemmas.List.{drop_at}
 use Rattle.std.proofs.lemmas.List.Elements.{All-head, All-tail}
 use Rattle.std.proofs.lemmas.List.Sums.{sum_by-append, sum_by-cons}
+use Rattle.io_edge.specs.Shelf.{Files}
 use Rattle.line_runs.specs.Lines.{Lines, WholeLines}
 use Rattle.demo_input.specs.Demo.{demo_questions, demo_setup, demo_text}
 use Rattle.wpinq_program.specs.Served.{Moment, PieceServed, Ran, Served, Wrote}
@@ -12,21 +13,21 @@ use Rattle.wpinq_program.specs.Shown.{LinesShown, Shown, quiet_count, reply_coun
 use Rattle.wpinq_program.proofs.RanLemmas.{Ran-append, Ran-counted}
 
 -- replies that nobody sees, before those that are written
-module _ (a b c : Moment) (first : List (List ℕ)) (hidden : List (List ℕ)) (ran : Ran a b first hidden) (silent : a.written ≡ b.written) where
+module _ (files : Option Files) (a b c : Moment) (first : List (List ℕ)) (hidden : List (List ℕ)) (ran : Ran files a b first hidden) (silent : a.written ≡ b.written) where
   wrote_behind : (replies : List (List ℕ)) (all : Bool) → Wrote b c replies all → Wrote a c (drop (reply_count first) (hidden ++ replies)) all
   wrote_behind replies all w =
-      rw (drop_at hidden replies (reply_count first) (Ran-counted a b first hidden ran))
+      rw (drop_at hidden replies (reply_count first) (Ran-counted files a b first hidden ran))
       record { text = w.text; put = rw silent w.put; whole = w.whole }
 
-  pub Shown-after : (second : List (List ℕ)) (all : Bool) → Served b c second all → Shown a c (reply_count first) (first ++ second) all
+  pub Shown-after : (second : List (List ℕ)) (all : Bool) → Served files b c second all → Shown files a c (reply_count first) (first ++ second) all
   Shown-after second all s = record {
     replies = hidden ++ s.replies;
-    ran = Ran-append a b c first second hidden s.replies ran s.ran;
+    ran = Ran-append files a b c first second hidden s.replies ran s.ran;
     wrote = wrote_behind s.replies all s.wrote;
   }
 
-  pub LinesShown-after : {E : Type 0} (result : Result (Unit {0}) E) (second : List (List ℕ)) → PieceServed result b c second
-      → LinesShown result a c (reply_count first) (first ++ second)
+  pub LinesShown-after : {E : Type 0} (result : Result (Unit {0}) E) (second : List (List ℕ)) → PieceServed files result b c second
+      → LinesShown files result a c (reply_count first) (first ++ second)
   LinesShown-after (Ok done) second s = Shown-after second true s
   LinesShown-after (Err e) second s = record {
     done = first ++ s.done;

@@ -5,7 +5,7 @@ ghost use Rattle.io_edge.specs.Causes.{HasCause, Rose};
 ghost use Rattle.line_runs.specs.Lines.{WholeLines};
 ghost use Rattle.request_machine.specs.State.{start_state};
 ghost use Rattle.wpinq_program.specs.Outcome.{DemoOutcome, IsStatus};
-ghost use Rattle.wpinq_program.specs.Served.{moment, responding};
+ghost use Rattle.wpinq_program.specs.Served.{known, seen};
 ghost use Rattle.wpinq_program.specs.Shown.{LinesShown, reply_count};
 
 use crate::ending::{DONE, Ending, NO_MEMORY, WRITE_FAULT};
@@ -46,12 +46,12 @@ fn serve_demo<K: Sink, N: Noise, F: Shelf, L: Ledger>(
 ) -> Result<(), Failed>
     requires begun { begun.old ≡ [] }
     requires lines { responder.old.lines ≡ 0 }
-    ensures shown { LinesShown result
-        (responding responder.old (K.written out.old) (N.given noise.old) (N.faults noise.old))
-        (responding responder.new (K.written out.new) (N.given noise.new) (N.faults noise.new))
+    ensures shown { LinesShown (F.files shelf.old) result
+        (seen responder.old (K.written out.old) (N.given noise.old) (N.faults noise.old) (F.faults shelf.old))
+        (seen responder.new (K.written out.new) (N.given noise.new) (N.faults noise.new) (F.faults shelf.new))
         (reply_count (WholeLines setup.now)) (WholeLines (setup.now ++ demo_questions)) }
     ensures cause { HasCause (K.faults out.old) (K.faults out.new) result }
-    ensures shelf { F.faults shelf.new ≡ F.faults shelf.old }
+    ensures files { F.files shelf.new ≡ F.files shelf.old }
 {
     responder.serve_piece(begun, setup, &mut SureSink::new(), noise, shelf, steps)?;
     responder.serve_piece(begun, demo_questions(), out, noise, shelf, steps)
@@ -68,13 +68,15 @@ pub fn run_demo<K: Sink, N: Noise, F: Shelf, L: Ledger>(
 ) -> Ending
     requires positive { 1 ≤ n }
     requires at_most_20 { n ≤ 20 }
-    ensures outcome { DemoOutcome n
-        (moment 0 (K.written out.old) (N.given noise.old) (N.faults noise.old) (start_state true))
-        (moment result.lines (K.written out.new) (N.given noise.new) (N.faults noise.new)) result.status }
+    ensures outcome { DemoOutcome (F.files shelf.old) n
+        (known 0 (K.written out.old) (N.given noise.old) (N.faults noise.old) (F.faults shelf.old)
+        (start_state true))
+        (known result.lines (K.written out.new) (N.given noise.new) (N.faults noise.new) (F.faults shelf.new))
+        result.status }
     ensures status { IsStatus result.status }
     ensures words { result.status ≢ 2 }
     ensures write_fault { result.status ≡ 4 → Rose (K.faults out.old) (K.faults out.new) }
-    ensures shelf { F.faults shelf.new ≡ F.faults shelf.old }
+    ensures files { F.files shelf.new ≡ F.files shelf.old }
 {
     let Ok((mut responder, mut begun, setup)) = buffers(alloc, n) else {
         return Ending::before_any_line(NO_MEMORY);

@@ -4,7 +4,7 @@ ghost use Rattle.io_edge.specs.Causes.{Rose};
 ghost use Rattle.request_machine.specs.State.{start_state};
 ghost use Rattle.wpinq_program.specs.Limits.{piece_len};
 ghost use Rattle.wpinq_program.specs.Outcome.{InputOutcome, IsStatus};
-ghost use Rattle.wpinq_program.specs.Served.{moment};
+ghost use Rattle.wpinq_program.specs.Served.{known};
 
 use crate::ending::{DONE, Ending, NO_MEMORY, OVER_LIMIT, READ_FAULT, WRITE_FAULT};
 use crate::line_buffer::LineBuffer;
@@ -45,14 +45,16 @@ pub fn run_input<S: Source, K: Sink, N: Noise, F: Shelf, L: Ledger>(
     steps: &mut Steps<L>,
 ) -> Ending
     requires { max < 2 ^ 63 }
-    ensures outcome { InputOutcome max (S.left src.old) (S.left src.new)
-        (moment 0 (K.written out.old) (N.given noise.old) (N.faults noise.old) (start_state curator))
-        (moment result.lines (K.written out.new) (N.given noise.new) (N.faults noise.new)) result.status }
+    ensures outcome { InputOutcome (F.files shelf.old) max (S.left src.old) (S.left src.new)
+        (known 0 (K.written out.old) (N.given noise.old) (N.faults noise.old) (F.faults shelf.old)
+        (start_state curator))
+        (known result.lines (K.written out.new) (N.given noise.new) (N.faults noise.new) (F.faults shelf.new))
+        result.status }
     ensures status { IsStatus result.status }
     ensures words { result.status ≢ 2 }
     ensures read_fault { result.status ≡ 3 → Rose (S.faults src.old) (S.faults src.new) }
     ensures write_fault { result.status ≡ 4 → Rose (K.faults out.old) (K.faults out.new) }
-    ensures shelf { F.faults shelf.new ≡ F.faults shelf.old }
+    ensures files { F.files shelf.new ≡ F.files shelf.old }
 {
     let Ok((mut responder, mut begun, mut piece)) = buffers(alloc, curator) else {
         return Ending::before_any_line(NO_MEMORY);

@@ -1,6 +1,6 @@
-//! The top call: it reads request lines from a source, or takes those of the demo, answers each through a session and
-//! writes the replies to a sink. Its contract says what every status means, whatever the pieces are in
-//! which the input is read and the output is taken.
+//! The top call: it reads request lines from a source, or takes those of the demo, answers each through a session
+//! and writes the replies to a sink. Its contract says what every status means, whatever the pieces are in which
+//! the input is read and the output is taken.
 #![tactic(auto)]
 
 mod beyond;

@@ -1,7 +1,7 @@
 //! Answers lines one after another and writes their replies.
 ghost use Rattle.std.specs.Prelude.{◌≡◌, ◌+◌, ◌^◌, ◌-◌, ◌<◌, ◌≤◌, ℕ, List, [], ◌∷◌, length, take, is_ok, true, MatchResult, IfOk, OnOk};
 ghost use Rattle.io_edge.specs.Causes.{HasCause};
-ghost use Rattle.wpinq_program.specs.Served.{PieceServed, Served, responding};
+ghost use Rattle.wpinq_program.specs.Served.{PieceServed, Served, seen};
 ghost use Rattle.line_runs.specs.Lines.{whole_lines, open_line, last_line};
 ghost use Rattle.request_machine.specs.State.{start_state};
 ghost use Rattle.wpinq_program.specs.Limits.{kept_of};
@@ -49,10 +49,12 @@ impl Responder {
         steps: &mut Steps<L>,
     ) -> Result<(), Failed>
         requires { self.old.lines < 2 ^ 64 - 1 }
-        ensures served { Served (responding self.old (K.written out.old) (N.given noise.old) (N.faults noise.old))
-            (responding self.new (K.written out.new) (N.given noise.new) (N.faults noise.new)) (line.now ∷ []) (is_ok result) }
+        ensures served { Served (F.files shelf.old)
+            (seen self.old (K.written out.old) (N.given noise.old) (N.faults noise.old) (F.faults shelf.old))
+            (seen self.new (K.written out.new) (N.given noise.new) (N.faults noise.new) (F.faults shelf.new))
+            (line.now ∷ []) (is_ok result) }
         ensures cause { HasCause (K.faults out.old) (K.faults out.new) result }
-        ensures shelf { F.faults shelf.new ≡ F.faults shelf.old }
+        ensures files { F.files shelf.new ≡ F.files shelf.old }
         ensures lines { self.new.lines ≤ self.old.lines + 1 }
     {
         if line.is_empty() {
@@ -79,13 +81,14 @@ impl Responder {
         steps: &mut Steps<L>,
     ) -> Result<(), Failed>
         requires { self.old.lines + length piece.now < 2 ^ 64 }
-        ensures served { (line : List ℕ) → begun.old ≡ kept_of line → PieceServed result
-            (responding self.old (K.written out.old) (N.given noise.old) (N.faults noise.old))
-            (responding self.new (K.written out.new) (N.given noise.new) (N.faults noise.new)) (whole_lines line piece.now) }
+        ensures served { (line : List ℕ) → begun.old ≡ kept_of line → PieceServed (F.files shelf.old) result
+            (seen self.old (K.written out.old) (N.given noise.old) (N.faults noise.old) (F.faults shelf.old))
+            (seen self.new (K.written out.new) (N.given noise.new) (N.faults noise.new) (F.faults shelf.new))
+            (whole_lines line piece.now) }
         ensures begun { (line : List ℕ) → begun.old ≡ kept_of line
             → OnOk result (begun.new ≡ kept_of (open_line line piece.now)) }
         ensures cause { HasCause (K.faults out.old) (K.faults out.new) result }
-        ensures shelf { F.faults shelf.new ≡ F.faults shelf.old }
+        ensures files { F.files shelf.new ≡ F.files shelf.old }
         ensures lines { self.new.lines ≤ self.old.lines + length piece.now }
     {
         let mut start = 0;
@@ -110,11 +113,12 @@ impl Responder {
         steps: &mut Steps<L>,
     ) -> Result<(), Failed>
         requires { self.old.lines < 2 ^ 64 - 1 }
-        ensures served { (line : List ℕ) → begun.now ≡ kept_of line → Served
-            (responding self.old (K.written out.old) (N.given noise.old) (N.faults noise.old))
-            (responding self.new (K.written out.new) (N.given noise.new) (N.faults noise.new)) (last_line line) (is_ok result) }
+        ensures served { (line : List ℕ) → begun.now ≡ kept_of line → Served (F.files shelf.old)
+            (seen self.old (K.written out.old) (N.given noise.old) (N.faults noise.old) (F.faults shelf.old))
+            (seen self.new (K.written out.new) (N.given noise.new) (N.faults noise.new) (F.faults shelf.new))
+            (last_line line) (is_ok result) }
         ensures cause { HasCause (K.faults out.old) (K.faults out.new) result }
-        ensures shelf { F.faults shelf.new ≡ F.faults shelf.old }
+        ensures files { F.files shelf.new ≡ F.files shelf.old }
     {
         if begun.is_empty() {
             return Ok(());

@@ -2,7 +2,7 @@
 ghost use Rattle.std.specs.Prelude.{◌≡◌, ◌^◌, ◌<◌, ◌≤◌, [], length};
 ghost use Rattle.io_edge.specs.Causes.{Rose};
 ghost use Rattle.wpinq_program.specs.Stream.{Streamed};
-ghost use Rattle.wpinq_program.specs.Served.{responding};
+ghost use Rattle.wpinq_program.specs.Served.{seen};
 
 use crate::beyond::Beyond;
 use crate::input::{read_beyond, read_some};
@@ -29,12 +29,13 @@ pub fn serve_stream<S: Source, K: Sink, N: Noise, F: Shelf, L: Ledger>(
     requires limit { max < 2 ^ 63 }
     requires begun { begun.old ≡ [] }
     requires lines { responder.old.lines ≡ 0 }
-    ensures streamed { Streamed max (S.left src.old) (S.left src.new)
-        (responding responder.old (K.written out.old) (N.given noise.old) (N.faults noise.old))
-        (responding responder.new (K.written out.new) (N.given noise.new) (N.faults noise.new)) begun.new result }
+    ensures streamed { Streamed (F.files shelf.old) max (S.left src.old) (S.left src.new)
+        (seen responder.old (K.written out.old) (N.given noise.old) (N.faults noise.old) (F.faults shelf.old))
+        (seen responder.new (K.written out.new) (N.given noise.new) (N.faults noise.new) (F.faults shelf.new))
+        begun.new result }
     ensures lines { responder.new.lines ≤ max }
     ensures later { K.faults out.old ≤ K.faults out.new }
-    ensures shelf { F.faults shelf.new ≡ F.faults shelf.old }
+    ensures files { F.files shelf.new ≡ F.files shelf.old }
     ensures read_fault { result ≡ Stop.ReadFault → Rose (S.faults src.old) (S.faults src.new) }
     ensures write_fault { result ≡ Stop.WriteFault → Rose (K.faults out.old) (K.faults out.new) }
 {

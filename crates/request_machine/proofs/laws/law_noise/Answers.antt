@@ -1,4 +1,4 @@
-use Rattle.request_machine.proofs.Quiet.{only_short_noise}
+use Rattle.request_machine.proofs.DeviceRefusals.{only_short_noise}
 use Rattle.request_machine.proofs.laws.law_noise.Goals as goal
 
 pub returns : goal.returns

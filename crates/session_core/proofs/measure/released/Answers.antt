@@ -1,4 +1,4 @@
-use Rattle.std.proofs.Common.{◌∙◌, ◌++◌, ◌∷◌, [], List, SFits, ap, arith, sym}
+use Rattle.std.proofs.Common.{◌∙◌, ◌++◌, ◌∷◌, [], SFits, ap, arith, sym}
 use mir.Syntax.{w64, w128}
 use Rattle.request_machine.specs.Stages.{release}
 use Rattle.std.proofs.lemmas.Int.{ints, to_z-of_z}

@@ -18,17 +18,17 @@ returns-in-Ok-clause-outcome g c = rw c.in-Ok.ensures.options c.run.ensures.outc
 pub returns-in-Err-Faulty-clause-outcome : goal.returns-in-Err-Faulty-clause-outcome
 returns-in-Err-Faulty-clause-outcome g c =
     let none = c.in-Err-Faulty.ensures.faulty (ap Err c.in-Err-Faulty.field-0-is) in
-    rw (none, c.before_any_line.ensures) (refl, λ state. Served-none _)
+    rw (none, c.before_any_line.ensures) (refl, λ state. Served-none _ _)
 
 pub returns-in-Err-Memory-clause-outcome : goal.returns-in-Err-Memory-clause-outcome
-returns-in-Err-Memory-clause-outcome g c = rw c.before_any_line-in-Err-Memory.ensures (Outcome-idle _ _ _)
+returns-in-Err-Memory-clause-outcome g c = rw c.before_any_line-in-Err-Memory.ensures (Outcome-idle _ _ _ _)
 
 pub returns-in-Ok-clause-complete : goal.returns-in-Ok-clause-complete
 returns-in-Ok-clause-complete g c = rw c.in-Ok.ensures.options (λ ask no_read no_write.
     let e = c.run.ensures in
-    Outcome-complete (Some c.in-Ok.options) _ _ _ _ _ _ _ _ _ e.outcome ask e.status e.words e.read_fault e.write_fault no_read no_write)
+    Outcome-complete _ (Some c.in-Ok.options) _ _ _ _ _ _ _ _ _ e.outcome ask e.status e.words e.read_fault e.write_fault no_read no_write)
 
 pub returns-in-Ok-clause-demo_complete : goal.returns-in-Ok-clause-demo_complete
 returns-in-Ok-clause-demo_complete g c = rw c.in-Ok.ensures.options (λ ask no_write.
     let e = c.run.ensures in
-    Outcome-demo_complete (Some c.in-Ok.options) _ _ _ _ _ _ _ e.outcome ask e.status e.words e.write_fault no_write)
+    Outcome-demo_complete _ (Some c.in-Ok.options) _ _ _ _ _ _ _ e.outcome ask e.status e.words e.write_fault no_write)

@@ -1,4 +1,4 @@
-use Rattle.std.proofs.Common.{◌≡◌, ◌++◌, ◌+◌, ◌∷◌, ◌∙◌, [], Bool, IfOk, List, Result, ap, arith, if◌then◌else◌, is_ok, refl, subst, vec_len}
+use Rattle.std.proofs.Common.{◌≡◌, ◌++◌, ◌+◌, ◌∷◌, ◌∙◌, [], Bool, IfOk, Result, ap, arith, if◌then◌else◌, is_ok, refl, subst, vec_len}
 use Rattle.std.specs.declared.alloc.AllocFailed.{AllocFailed}
 use Rattle.indexmap.specs.IndexSet.{insert_key}
 use Rattle.record_text.specs.Names.{name_eq}

@@ -1,5 +1,4 @@
-use Rattle.std.proofs.Common.{◌<◌, ◌≡◌, ◌∙◌, List, ap, ap₂, arith, get_or, length, sym, ℕ, refl, ◌-◌}
-use Rattle.std.specs.Prelude.{slice_get}
+use Rattle.std.proofs.Common.{◌∙◌, List, ap, ap₂, arith, length, sym, ℕ, ◌-◌}
 use Rattle.std.proofs.lemmas.Option.{get_or_from_slice_get}
 use lib.ListN.{length-map}
 use Rattle.budget_book.specs.Budgets.{spent_at, total_at}

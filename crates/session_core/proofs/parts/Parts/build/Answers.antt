@@ -1,8 +1,6 @@
-use Rattle.std.proofs.Common.{◌≡◌, ◌∙◌, ◌++◌, ◌+◌, ◌∷◌, [], Bool, IfOk, List, Result, ap, ap₂, arith, if◌then◌else◌, is_ok, length, refl, subst, sym, take, vec_len}
+use Rattle.std.proofs.Common.{◌≡◌, ◌∙◌, ◌++◌, ◌∷◌, [], List, ap, ap₂, arith, length, subst, sym, take}
 use Rattle.std.proofs.lemmas.List.{take_all}
 use lib.ListN.{length-map}
-use Rattle.std.specs.declared.alloc.AllocFailed.{AllocFailed}
-use Rattle.indexmap.specs.IndexSet.{insert_key}
 use Rattle.budget_book.specs.Asks.{AreAsks}
 use Rattle.budget_book.specs.declared.ask.Ask.{Ask}
 use Rattle.request_machine.specs.Charges.{asks_from, by_name, uses_of}
@@ -13,8 +11,6 @@ use Rattle.plan_model.specs.Fits.{misfit}
 use Rattle.plan_model.specs.Types.{Keeps}
 use Rattle.plan_model.specs.declared.step.Step.{Step}
 use Rattle.plan_model.specs.declared.source_types.SourceType.{SourceType}
-use Rattle.record_text.specs.Names.{name_eq}
-use Rattle.record_text.specs.declared.name.Name.{Name}
 use Rattle.messages.specs.declared.refusal.Refusal.TheVariants as refusal
 use Rattle.messages.specs.declared.reply.Reply.{Reply}
 use Rattle.messages.specs.declared.reply.Reply.TheVariants as reply
@@ -23,7 +19,6 @@ use Rattle.request_machine.specs.Declarations.{planned}
 use Rattle.session_core.specs.Parts.{state_of}
 use Rattle.request_machine.specs.State.{SourceState, State, family_of, new_plan, type_of, types_of}
 use Rattle.session_data.specs.Planned.{plan_states}
-use Rattle.session_core.specs.declared.parts.Parts.{Parts}
 use Rattle.session_data.specs.declared.plans.Planned.{Planned}
 use Rattle.session_core.proofs.ComesTo.{ComesTo-told}
 use Rattle.session_core.proofs.NewPlans.{length-checked, planned_fit, planned_told, planned_unfit}

@@ -5,7 +5,6 @@ use Rattle.messages.specs.declared.thing.Thing.TheVariants as thing
 use Rattle.request_machine.specs.Declarations.{dropped}
 use Rattle.request_machine.specs.Named.{plan_name}
 use Rattle.request_machine.proofs.Outcomes.{dropped_known, dropped_unknown, place_within}
-use Rattle.session_data.specs.Planned.{plan_states}
 use Rattle.session_core.specs.Parts.{state_of}
 use Rattle.session_core.proofs.ComesTo.{ComesTo-told}
 use Rattle.session_core.proofs.parts.Parts.drop_plan.Goals as goal

@@ -1,19 +1,18 @@
-use Rattle.std.proofs.Common.{◌<◌, ◌≤◌, ◌∙◌, ◌≡◌, ℕ, List, ap, ap₂, arith, length, map, subst, sym, refl, None, Some, Option, get_or, []}
-use Rattle.std.specs.Prelude.{All, slice_index_or}
+use Rattle.std.proofs.Common.{◌<◌, ◌≤◌, ◌∙◌, ◌≡◌, ℕ, List, ap, ap₂, length, map, subst, sym, None, Some, get_or, []}
+use Rattle.std.specs.Prelude.{All}
 use Rattle.std.specs.Option.{option_map}
 use lib.ListN.{length-map}
 use Rattle.budget_book.specs.Asks.{AreAsks, first_short}
 use Rattle.budget_book.specs.declared.ask.Ask.{Ask}
 use Rattle.budget_book.specs.declared.budget.Budget.{Budget}
-use Rattle.budget_book.specs.declared.short.Short.{Short}
 use Rattle.messages.specs.declared.refusal.Refusal.TheVariants as refusal
 use Rattle.messages.specs.declared.reply.Reply.TheVariants as reply
 use Rattle.messages.specs.declared.thing.Thing.TheVariants as thing
 use Rattle.record_text.specs.declared.kinds.Kind.{Kind}
-use Rattle.request_machine.specs.Charges.{at_epsilon, book_of, budget_of, budget_refusal, charges_of, short_refusal, uses_of}
+use Rattle.request_machine.specs.Charges.{at_epsilon, book_of, budget_of, charges_of, short_refusal}
 use Rattle.request_machine.specs.LookUps.{first_row_fault}
 use Rattle.request_machine.specs.Measures.{measured}
-use Rattle.request_machine.specs.Named.{plan_name, source_name}
+use Rattle.request_machine.specs.Named.{plan_name}
 use Rattle.request_machine.specs.Stages.{Stage}
 use Rattle.session_core.specs.Draws.{Responds}
 use Rattle.request_machine.specs.State.{family_of, type_of, types_of}

@@ -1,16 +1,13 @@
-use Rattle.std.proofs.Common.{◌∙◌, ◌≡◌, ℕ, List, ap, refl, sym, subst, length}
+use Rattle.std.proofs.Common.{◌∙◌, ◌≡◌, ℕ, List, ap, sym, subst, length}
 use Rattle.budget_book.specs.Asks.{AreAsks}
 use Rattle.budget_book.specs.declared.ask.Ask.{Ask}
 use Rattle.messages.specs.declared.reply.Reply.TheVariants as reply
-use Rattle.ratios.specs.Ratio.{Ratio}
 use Rattle.request_machine.specs.Charges.{after_charges, by_name}
 use Rattle.request_machine.specs.Measures.{measurement}
-use Rattle.request_machine.specs.Stages.{Measured}
 use Rattle.request_machine.specs.State.{State, family_of, types_of}
-use Rattle.session_core.specs.Draws.{Draws}
 use Rattle.session_core.specs.Parts.{state_of}
 use Rattle.std.proofs.lemmas.Result.{err_from_is_err_and}
-use Rattle.session_core.proofs.Measuring.{Responds-noise, Responds-none, Responds-stopped, Responds-values}
+use Rattle.session_core.proofs.Measuring.{Responds-none, Responds-values}
 use Rattle.session_core.proofs.parts.Parts.release.Goals as goal
 
 pub named-requires : goal.named-requires

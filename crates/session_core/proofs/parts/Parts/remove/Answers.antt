@@ -1,4 +1,4 @@
-use Rattle.std.proofs.Common.{ap, arith, refl, subst, ◌∙◌, ◌<◌, length}
+use Rattle.std.proofs.Common.{ap, arith, refl, subst, ◌∙◌, ◌<◌}
 use Rattle.std.specs.List.{remove}
 use lib.ListN.{length-map}
 use Rattle.session_data.specs.Planned.{plan_state}

@@ -1,4 +1,3 @@
-use Rattle.std.proofs.Common.{refl}
 use Rattle.session_core.proofs.Declared.{AreSettled-declares, fresh-types}
 use Rattle.session_core.proofs.parts.Parts.take.Goals as goal
 

@@ -12,10 +12,10 @@ pub loop-len-init : goal.loop-len-init
 unfolding whole_lines open_line
 loop-len-init g c = record {
   within = omega arith;
-  served = λ line k. Served-none _;
+  served = λ line k. Served-none _ _;
   begun = λ line k. k;
   later = omega arith;
-  shelf = refl;
+  files = refl;
   lines = omega arith;
 }
 
@@ -28,7 +28,7 @@ returns-in_err-serve-clause-served g c = λ line k.
     let inv = c.loop-len.invariant in
     let s = segment_found piece start len inv.within (rw (take_rest piece start) at c.in-Some.ensures) in
     let kept = c.extend.ensures ∙ ap (λ n. kept_of (c.loop-len.begun ++ take n (drop start piece))) (omega arith) in
-    rw (p.1) (ServedInPart-next _ _ _ line piece c.loop-len.begun _ start len s (inv.begun line k) kept (inv.served line k) (rw c.line.ensures at c.in_err-serve.ensures.served))
+    rw (p.1) (ServedInPart-next _ _ _ _ line piece c.loop-len.begun _ start len s (inv.begun line k) kept (inv.served line k) (rw (c.line.ensures, inv.files) at c.in_err-serve.ensures.served))
 
 pub loop-len-preserved : goal.loop-len-preserved
 loop-len-preserved g c =
@@ -40,10 +40,10 @@ loop-len-preserved g c =
     let kept = c.extend.ensures ∙ ap (λ n. kept_of (c.loop-len.begun ++ take n (drop start piece))) (omega arith) in
     record {
       within = omega (arith, s.within);
-      served = λ line k. Served-next _ _ _ line piece c.loop-len.begun _ start len _ s (inv.begun line k) kept (inv.served line k) (rw c.line.ensures at c.in_ok-serve.ensures.served);
+      served = λ line k. Served-next _ _ _ _ line piece c.loop-len.begun _ start len _ s (inv.begun line k) kept (inv.served line k) (rw (c.line.ensures, inv.files) at c.in_ok-serve.ensures.served);
       begun = λ line k. rw (open_line-next line piece start len s, c.clear.ensures) kept-nil;
       later = omega arith;
-      shelf = c.serve.ensures.shelf ∙ inv.shelf;
+      files = c.serve.ensures.files ∙ inv.files;
       lines = omega arith;
     }
 
@@ -52,7 +52,7 @@ returns-clause-served g c = λ line k.
     let piece = c.args.piece.now in
     let start = c.loop-len.start in
     let plain = rest_is_plain piece start (rw (take_rest piece start) at c.in_default.ensures) in
-    Served-rest _ _ line piece start plain (c.loop-len.invariant.served line k)
+    Served-rest _ _ _ line piece start plain (c.loop-len.invariant.served line k)
 
 pub returns-clause-begun : goal.returns-clause-begun
 returns-clause-begun g c = λ line k.
