@@ -18,7 +18,7 @@ import time
 
 UNTIMED = 50
 CHANGES = 500
-MAX_INPUT = 1_048_576  # the most bytes that one run of the program takes
+MAX_LINE = 1_048_576  # the most bytes of a line
 
 
 def request(**fields):
@@ -79,7 +79,7 @@ def time_changes(program, steps, size, held):
     whole = [{"do": "source", "name": "a"}] + steps(size)
     start.append(request(op="plan", name="p", plan={"format": 1, "steps": whole}))
     changes = [update("a", [chosen.randrange(held)]) for _ in range(UNTIMED + CHANGES)]
-    assert sum(map(len, start + changes)) <= MAX_INPUT
+    assert max(map(len, start + changes)) <= MAX_LINE
     with subprocess.Popen([program], stdin=subprocess.PIPE, stdout=subprocess.PIPE) as server:
         ask(server, start)
         ask(server, changes[:UNTIMED])
