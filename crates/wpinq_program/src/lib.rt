@@ -15,6 +15,7 @@ mod stop;
 mod stream;
 mod top;
 
+pub use demo_input::demo_text;
 pub use ending::Ending;
 pub use program_words::Word;
 pub use top::wpinq;
