@@ -64,7 +64,7 @@ fn input_that_is_cut_is_answered_as_far_as_it_goes(rt: HostRuntime) -> Result<()
         let is_whole = front.is_empty() || front.ends_with(b"\n");
         let lacks_end = bytes.get(taken) == Some(&b'\n');
         if lacks_end && !is_whole {
-            wanted = first_lines(alloc, replies.as_str(), lines + 1)?;
+            wanted = first_lines(alloc, replies.as_str(), lines.saturating_add(1))?;
         } else if !is_whole {
             wanted.push_str("{\"ok\":false,\"why\":\"json\"}\n")?;
         }
