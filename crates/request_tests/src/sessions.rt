@@ -94,16 +94,27 @@ fn first_wrong_of(alloc: Global, rows: &[(&str, &str)]) -> Result<Option<usize>,
     first_wrong(alloc, &rows)
 }
 
-// The same with a shelf that has two files, of which one is a byte too long, and that fails at the call of this number.
+// The bytes of a file that has one too many.
+fn long_file(alloc: Global) -> Result<Vec<u8>, Fail> {
+    Ok(vec![in alloc; b'1'; 16_777_217]?)
+}
+
+// A shelf that has two files, of which one is a byte too long, and that fails at the call of this number.
+fn shelf_of_two(alloc: Global, fails_at: u64) -> Result<MemShelf, Fail> {
+    let mut shelf = MemShelf::new(alloc);
+    shelf.put(b"d.csv", Vec::from_slice(alloc, b"n,w\n5,1\n")?)?;
+    shelf.put(b"long.csv", long_file(alloc)?)?;
+    shelf.fail_at(fails_at)?;
+    Ok(shelf)
+}
+
+// The same with such a shelf.
 fn first_wrong_with_files(
     alloc: Global,
     fails_at: u64,
     rows: &[(&str, &str)],
 ) -> Result<Option<usize>, Fail> {
-    let mut shelf = MemShelf::new(alloc);
-    shelf.put(b"d.csv", Vec::from_slice(alloc, b"n,w\n5,1\n")?)?;
-    shelf.put(b"long.csv", vec![in alloc; b'1'; 16_777_217]?)?;
-    shelf.fail_at(fails_at)?;
+    let mut shelf = shelf_of_two(alloc, fails_at)?;
     let rows = owned(alloc, rows)?;
     first_wrong_counted::<Brand>(alloc, Blank::new(1), &mut shelf, &rows)
 }
