@@ -1,4 +1,4 @@
-//! Tests of reading CSV updates, of requests and replies as lines, and of sessions.
+//! Tests of reading CSV updates, and of requests and replies as lines.
 #![tactic(auto)]
 
 #[cfg(test)]
@@ -7,5 +7,3 @@ mod csv;
 mod replies;
 #[cfg(test)]
 mod requests;
-#[cfg(test)]
-mod sessions;

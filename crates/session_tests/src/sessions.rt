@@ -68,10 +68,18 @@ fn first_wrong_counted<L: Ledger>(
     first_wrong_in(alloc, &mut session, shelf, rows, &mut steps)
 }
 
-// The same with a counter of its own, and a shelf without files.
+// The same with a counter of its own.
+fn first_wrong_over(
+    alloc: Global,
+    shelf: &mut MemShelf,
+    rows: &[(String, String)],
+) -> Result<Option<usize>, Fail> {
+    first_wrong_counted::<Brand>(alloc, Blank::new(1), shelf, rows)
+}
+
+// The same with a shelf without files.
 fn first_wrong(alloc: Global, rows: &[(String, String)]) -> Result<Option<usize>, Fail> {
-    let mut shelf = MemShelf::new(alloc);
-    first_wrong_counted::<Brand>(alloc, Blank::new(1), &mut shelf, rows)
+    first_wrong_over(alloc, &mut MemShelf::new(alloc), rows)
 }
 
 fn owned_row(alloc: Global, line: &str, reply: &str) -> Result<(String, String), Fail> {
@@ -116,7 +124,7 @@ fn first_wrong_with_files(
 ) -> Result<Option<usize>, Fail> {
     let mut shelf = shelf_of_two(alloc, fails_at)?;
     let rows = owned(alloc, rows)?;
-    first_wrong_counted::<Brand>(alloc, Blank::new(1), &mut shelf, &rows)
+    first_wrong_over(alloc, &mut shelf, &rows)
 }
 
 #[test]

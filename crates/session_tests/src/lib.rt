@@ -1,0 +1,5 @@
+//! Tests of sessions: lines that are answered one after another.
+#![tactic(auto)]
+
+#[cfg(test)]
+mod sessions;
