@@ -11,33 +11,6 @@ fn answer(alloc: Global, input: &[u8]) -> Result<String, Fail> {
     Ok(written)
 }
 
-/// So many opening brackets, and as many closing ones.
-fn brackets(alloc: Global, depth: usize) -> Result<Vec<u8>, Fail> {
-    let mut line = vec![in alloc; b'['; depth]?;
-    line.extend_from_slice(&vec![in alloc; b']'; depth]?)?;
-    Ok(line)
-}
-
-#[test]
-fn nested_brackets_are_read_to_a_depth_of_127(rt: HostRuntime) -> Result<(), Fail> {
-    let cases = [
-        (
-            127,
-            "{\"field\":\"request\",\"ok\":false,\"why\":\"shape\"}\n",
-        ),
-        (128, "{\"ok\":false,\"why\":\"json\"}\n"),
-    ];
-    for (depth, reply) in cases {
-        let line = brackets(rt.alloc(), depth)?;
-        assert_eq!(rt;
-            answer(rt.alloc(), line.as_slice())?.as_str(),
-            reply,
-            "{depth}"
-        );
-    }
-    Ok(())
-}
-
 #[test]
 fn odd_bytes_are_refused_and_the_next_line_is_answered(rt: HostRuntime) -> Result<(), Fail> {
     let cases: [(&[u8], &str); 4] = [
