@@ -107,10 +107,7 @@ impl PartOp for GroupOp {
         let sums = walk(*into.allocator(), key, self.reduce, order.as_slice())?;
         match sums.append_to(into) {
             Ok(()) => Ok(()),
-            Err(memory) => {
-                into.clear();
-                Err(OpFault::from(memory))
-            }
+            Err(memory) => Err(OpFault::from(memory)),
         }
     }
 

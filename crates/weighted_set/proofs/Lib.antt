@@ -1,10 +1,13 @@
 pub mod TouchedRows
 pub mod Tables
 pub mod Sets
+pub mod OneRow
+pub mod OneRowSets
 pub mod ChangeLists
 pub mod Running
 pub mod Parts
 pub mod WeightSets
 pub mod Merged
+pub mod WalkedDistance
 pub mod PartStores
 pub mod AllChanges

@@ -1,29 +1,18 @@
 -- The differences of two datasets, by one walk over the entries of both.
-use Rattle.std.specs.Prelude.{◌≡◌, Bool, true, false, cond, ◌&&◌, fold, List, [], ◌∷◌, map, MatchOption, Option, Some, None, refl}
-use Rattle.std.specs.Borrow.{Bor}
-use Rattle.std.specs.List.{list_all}
+use Rattle.std.specs.Prelude.{◌≡◌, List, [], ◌∷◌, map, refl}
 use Rattle.std.specs.List.Sorted.{IsStrictlySortedBy}
 use Rattle.std.specs.Ordering.{is_eq, match_ordering, ordering_reverse}
-use Rattle.std.specs.declared.cmp.Ordering.{Ordering}
 use Rattle.std.specs.declared.cmp.Ordering.TheVariants.{Less, Equal, Greater}
-use Rattle.std.proofs.Common.{sym, ap, ap₂, subst, ◌∙◌}
-use Rattle.std.proofs.lemmas.Simd.{map-map}
-use Rattle.ratios.specs.Range.{in_range, checked}
-use Rattle.ratios.specs.Ratio.{Ratio, ratio_abs, ratio_add, ratio_sub, zero_ratio}
-use Rattle.ratios.specs.Sums.{running_sums_after}
-use Rattle.ratios.proofs.Range.{checked_none, checked_some, in_range-out}
+use Rattle.std.proofs.Common.{sym, ap, ap₂, subst, ◌∙◌, cond}
+use Rattle.ratios.specs.Ratio.{Ratio, ratio_sub, zero_ratio}
 use Rattle.record_text.specs.Order.{row_cmp}
 use Rattle.record_text.specs.OrderLaws.{row_total, row_tie}
-use Rattle.datasets.specs.Dataset.{Dataset, rows_of_either, with_row, with_rows}
+use Rattle.datasets.specs.Dataset.{with_row, with_rows}
 use Rattle.datasets.specs.Entries.{Row, Entries, AreRising, rows_of, weight_in}
 use Rattle.datasets.specs.Kept.{IsBelow-lower, less_turned}
 use Rattle.datasets.proofs.Rows.{same_row-itself, same_row-turned}
 use Rattle.datasets.proofs.Weights.{weight_in-cons, weight_in-below}
-use Rattle.weighted_set.specs.Compared.{compared_entries}
-use Rattle.weighted_set.specs.declared.compared.Compared.{Compared}
-use Rattle.weighted_set.specs.Sizes.{checked_distance}
 use Rattle.weighted_set.proofs.Parts.{IsBelowRows}
-use Rattle.weighted_set.proofs.WeightSets.{and_nested, sum_from, sum_goes_on, sum_stops}
 
 -- ---- rows above a row
 above-with_row : (x y : Row) (ys : List Row) → row_cmp x y ≡ Less → IsBelowRows x ys → IsBelowRows x (with_row y ys)
@@ -81,7 +70,8 @@ abbrev pub gaps : Entries → Entries → List Ratio
 gaps [] fs = map (λ f. ratio_sub zero_ratio f.1) fs
 gaps (e ∷ es) fs = gaps_past e (gaps es) fs
 
-abbrev WalksTo : Entries → Entries → Type 0
+-- the walk gives the differences at the rows of either list
+abbrev pub WalksTo : Entries → Entries → Type 0
 WalksTo es fs = map (gap_at es fs) (with_rows (rows_of es) (rows_of fs)) ≡ gaps es fs
 
 right_alone : (fs : Entries) → AreRising (rows_of fs) → WalksTo [] fs
@@ -143,97 +133,7 @@ module _ (e : Row × Ratio) (es : Entries) (above : IsBelowRows e.0 (rows_of es)
             ∙ second_below f fs h.0 less (gaps_past e (gaps es) fs) (walk_past fs h.1)
       ] refl
 
-walk_all : (es fs : Entries) → AreRising (rows_of es) → AreRising (rows_of fs) → WalksTo es fs
+pub walk_all : (es fs : Entries) → AreRising (rows_of es) → AreRising (rows_of fs) → WalksTo es fs
 unfolding IsStrictlySortedBy
 walk_all [] fs h k = right_alone fs k
 walk_all (e ∷ es) fs h k = walk_past e es h.0 (λ gs. walk_all es gs h.1) fs k
-
--- ---- the distance by the walk
--- the sum of s and the absolute differences, or nothing where one, or a sum on the way, is out of range
-abbrev pub distance_from : Ratio → List Ratio → Option Ratio
-distance_from s gs = cond (list_all in_range gs) (sum_from s (map ratio_abs gs)) None
-
-pub distance_walked : (A B : Dataset) → checked_distance A B ≡ distance_from zero_ratio (gaps A.entries B.entries)
-distance_walked A B =
-    let f = gap_at A.entries B.entries in
-    let xs = rows_of_either A B in
-    let sums : List Ratio → Bool = λ ws. list_all in_range (running_sums_after zero_ratio ws) in
-    ap (λ ws. cond (list_all in_range (map f xs) && sums ws) (Some (fold ratio_add zero_ratio ws)) None) (sym (map-map ratio_abs f xs))
-    ∙ and_nested (list_all in_range (map f xs)) (sums (map ratio_abs (map f xs))) (Some (fold ratio_add zero_ratio (map ratio_abs (map f xs))))
-    ∙ ap (distance_from zero_ratio) (walk_all A.entries B.entries A.rising B.rising)
-
-pub difference_stops : (s g : Ratio) (gs : List Ratio) → checked g ≡ None → distance_from s (g ∷ gs) ≡ None
-difference_stops s g gs e = ap (λ b. cond (b && list_all in_range gs) (sum_from s (map ratio_abs (g ∷ gs))) None) (in_range-out g (checked_none g e))
-
-either_none : (b : Bool) (o : Option Ratio) → o ≡ None → cond b o None ≡ None
-either_none true o e = e
-either_none false o e = refl
-
-module _ (s g d : Ratio) (gs : List Ratio) (difference : checked g ≡ Some d) where
-  difference_in : distance_from s (g ∷ gs) ≡ cond (list_all in_range gs) (sum_from s (ratio_abs g ∷ map ratio_abs gs)) None
-  difference_in = ap (λ b. cond (b && list_all in_range gs) (sum_from s (ratio_abs g ∷ map ratio_abs gs)) None) (checked_some g d difference).0
-
-  -- what is added is the absolute value of the difference d
-  same_size : ratio_abs d ≡ ratio_abs g
-  same_size = ap ratio_abs (checked_some g d difference).1
-
-  pub distance_stops : checked (ratio_add s (ratio_abs d)) ≡ None → distance_from s (g ∷ gs) ≡ None
-  distance_stops e = difference_in ∙ either_none (list_all in_range gs) (sum_from s (ratio_abs g ∷ map ratio_abs gs)) (sum_stops s (ratio_abs g) (map ratio_abs gs) (subst (λ q. checked (ratio_add s q) ≡ None) same_size e))
-
-  pub distance_goes_on : (r : Ratio) → checked (ratio_add s (ratio_abs d)) ≡ Some r → distance_from s (g ∷ gs) ≡ distance_from r gs
-  distance_goes_on r e = difference_in ∙ ap (λ o. cond (list_all in_range gs) o None) (sum_goes_on s (ratio_abs g) r (map ratio_abs gs) (subst (λ q. checked (ratio_add s q) ≡ Some r) same_size e))
-
--- ---- one step of the walk
--- the entry that was taken off a list, and those after it
-abbrev pub ahead : Option (Bor Row × Bor Ratio) → Entries → Entries
-ahead None es = []
-ahead (Some e) es = (e.0.now, e.1.now) ∷ es
-
--- the difference of the two weights, and what is left to walk
-abbrev pub StepsTo : Option (Bor Row × Bor Ratio) → Option (Bor Row × Bor Ratio) → Entries → Entries → Option Compared → Type 0
-StepsTo first second es fs None = gaps (ahead first es) (ahead second fs) ≡ []
-StepsTo first second es fs (Some t) =
-    gaps (ahead first es) (ahead second fs) ≡ ratio_sub t.left t.right ∷ match_ordering t.order (gaps es (ahead second fs)) (gaps es fs) (gaps (ahead first es) fs)
-
-step_compared : (o : Ordering) (x y : Ratio) (ps qs rs : List Ratio)
-    → match_ordering o (ratio_sub x zero_ratio ∷ ps) (ratio_sub x y ∷ qs) (ratio_sub zero_ratio y ∷ rs) ≡ ratio_sub (match_ordering o x x zero_ratio) (match_ordering o zero_ratio y y) ∷ match_ordering o ps qs rs
-step_compared Less x y ps qs rs = refl
-step_compared Equal x y ps qs rs = refl
-step_compared Greater x y ps qs rs = refl
-
-pub walk_steps : (first second : Option (Bor Row × Bor Ratio)) (es fs : Entries) → StepsTo first second es fs (compared_entries first second)
-walk_steps None None es fs = refl
-walk_steps None (Some f) es fs = refl
-walk_steps (Some e) None es fs = refl
-walk_steps (Some e) (Some f) es fs =
-    step_compared (row_cmp e.0.now f.0.now) e.1.now f.1.now (gaps es ((f.0.now, f.1.now) ∷ fs)) (gaps es fs) (gaps ((e.0.now, e.1.now) ∷ es) fs)
-
-pub taken_off : (Q : Type 0) (o : Option (Bor Row × Bor Ratio)) (es new : Entries) → MatchOption o ((es ≡ []) × Q) (λ e. es ≡ (e.0.now, e.1.now) ∷ new) → ahead o new ≡ es
-taken_off Q None es new h = sym h.0
-taken_off Q (Some e) es new h = sym h
-
-module _ (s : Ratio) (first second : Option (Bor Row × Bor Ratio)) (es fs : Entries) where
-  -- the walk from the entries that were taken off
-  abbrev pub distance_ahead : Option Ratio
-  distance_ahead = distance_from s (gaps (ahead first es) (ahead second fs))
-
-  pub walk_ends : None ≡ compared_entries first second → distance_ahead ≡ Some s
-  walk_ends e = ap (distance_from s) (subst (StepsTo first second es fs) (sym e) (walk_steps first second es fs))
-
-  module _ (t : Compared) (next : Some t ≡ compared_entries first second) where
-    -- what is left to walk
-    abbrev pub left_to_walk : List Ratio
-    left_to_walk = match_ordering t.order (gaps es (ahead second fs)) (gaps es fs) (gaps (ahead first es) fs)
-
-    one_step : distance_ahead ≡ distance_from s (ratio_sub t.left t.right ∷ left_to_walk)
-    one_step = ap (distance_from s) (subst (StepsTo first second es fs) (sym next) (walk_steps first second es fs))
-
-    pub walk_stops_at_difference : None ≡ checked (ratio_sub t.left t.right) → distance_ahead ≡ None
-    walk_stops_at_difference e = one_step ∙ difference_stops s (ratio_sub t.left t.right) left_to_walk (sym e)
-
-    module _ (d : Ratio) (difference : Some d ≡ checked (ratio_sub t.left t.right)) where
-      pub walk_stops_at_sum : None ≡ checked (ratio_add s (ratio_abs d)) → distance_ahead ≡ None
-      walk_stops_at_sum e = one_step ∙ distance_stops s (ratio_sub t.left t.right) d left_to_walk (sym difference) (sym e)
-
-      pub walk_goes_on : (r : Ratio) → Some r ≡ checked (ratio_add s (ratio_abs d)) → distance_ahead ≡ distance_from r left_to_walk
-      walk_goes_on r e = one_step ∙ distance_goes_on s (ratio_sub t.left t.right) d left_to_walk (sym difference) r (sym e)

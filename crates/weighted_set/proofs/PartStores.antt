@@ -1,7 +1,7 @@
 -- What a store holds once the part of one key is changed.
 use Rattle.std.specs.Prelude.{◌≡◌, Bool, true, false, cond, IfSome, [], Option, Some, None, refl, unwrap_or}
 use Rattle.std.specs.Map.{lookup}
-use Rattle.std.proofs.Common.{sym, ap, subst, ◌∙◌}
+use Rattle.std.proofs.Common.{sym, ap, ◌∙◌}
 use Rattle.datasets.specs.Dataset.{Dataset, empty}
 use Rattle.datasets.specs.Entries.{Row, same_row}
 use Rattle.datasets.proofs.Rows.{same_row-equal, same_row-turned}
@@ -10,14 +10,6 @@ use Rattle.weighted_set.specs.declared.held.View.TheVariants.{Committed, Pending
 use Rattle.weighted_set.specs.Held.{HeldDatasets, viewed}
 use Rattle.weighted_set.specs.Parts.{IsSettledPart, StoreParts, committed_part, empty_part, part_at, pending_part}
 use Rattle.weighted_set.specs.Tables.{AllBut, FindsAt}
-
--- a key that is absent is found with nothing
-pub absent-finds : (key : Row) (parts : StoreParts) → lookup (same_row key) parts ≡ None → FindsAt key None parts parts
-absent-finds key parts absent k =
-    elim (same_row key k) as (λ b. same_row key k ≡ b → lookup (same_row k) parts ≡ cond b None (lookup (same_row k) parts)) [
-      | true ↦ λ same. subst (λ x. lookup (same_row x) parts ≡ None) (same_row-equal key k same) absent
-      | false ↦ λ other. refl
-    ] refl
 
 either_part : (b : Bool) (o p : Option HeldDatasets) → unwrap_or (cond b o p) empty_part ≡ cond b (unwrap_or o empty_part) (unwrap_or p empty_part)
 either_part true o p = refl
@@ -56,6 +48,10 @@ pub nothing_pending : (parts : StoreParts) → AllBut IsSettledPart [] parts →
 nothing_pending parts h k = same_found (lookup (same_row k) parts) (h k refl)
 
 -- ---- a part without rows
+pub viewed-empty_part : (view : View) → viewed view empty_part ≡ empty
+viewed-empty_part Committed = refl
+viewed-empty_part Pending = refl
+
 pub entries-empty_part : (view : View) → (viewed view empty_part).entries ≡ []
 unfolding empty
 entries-empty_part Committed = refl

@@ -12,7 +12,7 @@ use Rattle.datasets.proofs.Weights.{at-empty, at-set_at}
 use Rattle.weighted_set.specs.declared.held.Held.{Held}
 use Rattle.weighted_set.specs.declared.held.View.{View}
 use Rattle.weighted_set.specs.declared.held.View.TheVariants.{Committed, Pending}
-use Rattle.weighted_set.specs.Held.{AllInRange, HeldDatasets, HeldRows, IsSet, IsSettledRow, PutsAt, SettlesAt, committed_of, dataset_by, pending_of, settled_row, viewed, viewed_weight}
+use Rattle.weighted_set.specs.Held.{AllInRange, HeldDatasets, HeldRows, IsSet, IsSettledRow, PutsAt, SettlesAt, committed_of, dataset_by, pending_of, seen_by, settled_row, viewed, viewed_weight}
 use Rattle.weighted_set.proofs.Tables.{committed_of-settles, dataset_by-finds, pending_of-settles, settled_row-is_settled}
 use Rattle.weighted_set.proofs.TouchedRows.{all_but_less, all_but_more, all_but_noted, found_itself, others_stay}
 
@@ -115,9 +115,28 @@ dataset_by-either : (view : View) (es : HeldRows) → dataset_by (viewed_weight 
 dataset_by-either Committed es = refl
 dataset_by-either Pending es = refl
 
+-- either view of a set that is kept is in range
+pub seen_in_range : (view : View) (es : HeldRows) (ts : List Row) (len : ℕ) → IsSet es ts len → AllInRange (seen_by view es)
+seen_in_range Committed es ts len h = h.committed_in_range
+seen_in_range Pending es ts len h = h.pending_in_range
+
 -- what a set's rows give in a view is what callers see there
 pub dataset_by-view : (view : View) (es : HeldRows) (seen : HeldDatasets) → record { committed = committed_of es; pending = pending_of es } ≡ seen → dataset_by (viewed_weight view) es ≡ viewed view seen
 dataset_by-view view es seen is = dataset_by-either view es ∙ ap (viewed view) is
+
+-- where nothing is pending, both datasets are what either view has
+pub committed_is_viewed : (view : View) (part : HeldDatasets) → part.pending ≡ part.committed → part.committed ≡ viewed view part
+committed_is_viewed Committed part same = refl
+committed_is_viewed Pending part same = sym same
+
+pub pending_is_viewed : (view : View) (part : HeldDatasets) → part.pending ≡ part.committed → part.pending ≡ viewed view part
+pending_is_viewed Committed part same = same
+pending_is_viewed Pending part same = refl
+
+-- where both datasets are A, either view has A
+pub settled_is_viewed : (view : View) (part : HeldDatasets) (A : Dataset) → part.committed ≡ A → part.pending ≡ A → viewed view part ≡ A
+settled_is_viewed Committed part A e f = e
+settled_is_viewed Pending part A e f = f
 
 -- ---- a set without rows
 none_if_no_length : (es : Entries) → length es ≡ 0 → es ≡ []

@@ -12,7 +12,9 @@ use Rattle.datasets.proofs.Equality.{same_weights}
 use Rattle.datasets.proofs.Rows.{other_if_not_is_zero, same_row-turned, zero_if_is_zero}
 use Rattle.datasets.proofs.Weights.{at-dataset_of, at-set_at}
 use Rattle.weighted_set.specs.declared.held.Held.{Held}
-use Rattle.weighted_set.specs.Held.{HeldRows, IsSettledRow, SettlesAt, committed_of, dataset_by, pending_of, settled_row}
+use Rattle.weighted_set.specs.declared.held.View.{View}
+use Rattle.weighted_set.specs.declared.held.View.TheVariants.{Committed, Pending}
+use Rattle.weighted_set.specs.Held.{HeldRows, IsSettledRow, SettlesAt, committed_of, dataset_by, pending_of, seen_by, settled_row, viewed_weight}
 use Rattle.weighted_set.specs.Tables.{AllBut, FindsAt}
 
 -- a weight that is found, and 0 where there is none
@@ -77,6 +79,14 @@ committed_of-settles = dataset_by-settles (λ h. h.committed) (λ w. refl)
 pub pending_of-settles : (x : Row) (w : Ratio) (old new : HeldRows) → SettlesAt x w old new → pending_of new ≡ set_at x w (pending_of old)
 pending_of-settles = dataset_by-settles (λ h. h.pending) (λ w. refl)
 
+-- where both weights are w, either view has w
+pub viewed_both : (view : View) (h : Held) (w : Ratio) → h.committed ≡ w → h.pending ≡ w → viewed_weight view h ≡ w
+viewed_both Committed h w e f = e
+viewed_both Pending h w e f = f
+
+pub seen_by-settles : (view : View) (x : Row) (w : Ratio) (old new : HeldRows) → SettlesAt x w old new → seen_by view new ≡ set_at x w (seen_by view old)
+seen_by-settles view = dataset_by-settles (viewed_weight view) (λ w. viewed_both view (record { committed = w; pending = w }) w refl refl)
+
 -- what is kept of it has a weight other than 0
 pub settled_row-is_settled : (w : Ratio) → IfSome (settled_row w) IsSettledRow
 settled_row-is_settled w =
@@ -84,6 +94,12 @@ settled_row-is_settled w =
       | true ↦ λ e. tt
       | false ↦ λ e. (refl, other_if_not_is_zero w e)
     ] refl
+
+pub settled_row-zero : (w : Ratio) → is_zero w ≡ true → settled_row w ≡ None
+settled_row-zero w e = ap (λ b. cond b None (Some (record { committed = w; pending = w }))) e
+
+pub settled_row-other : (w : Ratio) → is_zero w ≡ false → settled_row w ≡ Some (record { committed = w; pending = w })
+settled_row-other w e = ap (λ b. cond b None (Some (record { committed = w; pending = w }))) e
 
 -- where no row is touched, nothing is pending
 same_found : (o : Option Held) → IfSome o IsSettledRow → weight_found (λ h. h.pending) o ≡ weight_found (λ h. h.committed) o

@@ -6,7 +6,7 @@ use Rattle.std.specs.Ordering.{eq_by_cmp}
 use Rattle.ratios.specs.Range.{InRange}
 use Rattle.ratios.specs.Ratio.{Ratio, ratio_cmp, zero_ratio}
 use Rattle.datasets.specs.Code.{dataset_code}
-use Rattle.datasets.specs.Dataset.{Dataset, at, rows, dataset_of}
+use Rattle.datasets.specs.Dataset.{Dataset, at, empty, rows, set_at, dataset_of}
 use Rattle.datasets.specs.Entries.{Entries, Row, is_zero, same_row}
 use Rattle.weighted_set.specs.Changes.{IsChangeList}
 use Rattle.weighted_set.specs.Tables.{AllBut, FindsAt}
@@ -36,9 +36,13 @@ abbrev pub viewed_weight : View → Held → Ratio
 viewed_weight Committed h = h.committed
 viewed_weight Pending h = h.pending
 
+-- the weights of a view
+abbrev pub seen_by : View → HeldRows → Dataset
+seen_by view es = dataset_by (viewed_weight view) es
+
 -- the rows that weigh something in a view, with their weights there
 abbrev pub viewed_entries : View → HeldRows → Entries
-viewed_entries view es = (dataset_by (viewed_weight view) es).entries
+viewed_entries view es = (seen_by view es).entries
 
 -- what callers see of a set: the committed dataset, and the one that is pending
 pub record HeldDatasets : Type 0 where
@@ -50,6 +54,10 @@ abbrev pub held_datasets_code : Coded HeldDatasets
 held_datasets_code =
     code_by (Dataset × Dataset) (coded× dataset_code dataset_code)
     (λ h. (h.committed, h.pending)) (λ p. record { committed = p.0; pending = p.1 }) (λ _. refl)
+
+-- the two datasets of one row alone
+abbrev pub one_held : Row → Held → HeldDatasets
+one_held x h = record { committed = set_at x h.committed empty; pending = set_at x h.pending empty }
 
 -- the dataset of a view
 abbrev pub viewed : View → HeldDatasets → Dataset
@@ -64,6 +72,10 @@ AllInRange A = (x : Row) → InRange (at A x)
 abbrev pub PutsAt : Row → Held → HeldRows → HeldRows → Type 0
 PutsAt x h old new = FindsAt x (Some h) old new
 
+-- once put, the pending weight of the row x is w, its committed one stays, and so does what every other row holds
+abbrev pub PendsRow : Row → Ratio → HeldRows → HeldRows → Type 0
+PendsRow x w old new = PutsAt x (record { committed = at (committed_of old) x; pending = w }) old new
+
 -- what is kept of a row whose two weights are w: nothing where w is 0
 abbrev pub settled_row : Ratio → Option Held
 settled_row w = if is_zero w then None else Some (record { committed = w; pending = w })
@@ -72,13 +84,9 @@ settled_row w = if is_zero w then None else Some (record { committed = w; pendin
 abbrev pub SettlesAt : Row → Ratio → HeldRows → HeldRows → Type 0
 SettlesAt x w old new = FindsAt x (settled_row w) old new
 
--- once its pending weight is committed, the row x is settled at it
-abbrev pub CommitsRow : Row → HeldRows → HeldRows → Type 0
-CommitsRow x old new = SettlesAt x (at (pending_of old) x) old new
-
--- once its pending weight is taken back, the row x is settled at its committed one
-abbrev pub AbortsRow : Row → HeldRows → HeldRows → Type 0
-AbortsRow x old new = SettlesAt x (at (committed_of old) x) old new
+-- once its weight in the view is made both, the row x is settled at it
+abbrev pub SettlesInView : View → Row → HeldRows → HeldRows → Type 0
+SettlesInView view x old new = SettlesAt x (at (seen_by view old) x) old new
 
 -- a row that is kept with nothing pending has a weight other than 0
 abbrev pub IsSettledRow : Held → Type 0

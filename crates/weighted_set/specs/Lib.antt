@@ -2,6 +2,7 @@ pub mod Changes
 pub mod Adding
 pub mod Tables
 pub mod Held
+pub mod KeyRows
 pub mod Parts
 pub mod Standing
 pub mod Laws

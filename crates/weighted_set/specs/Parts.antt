@@ -52,15 +52,9 @@ SamePending old new = (k : Row) → pending_part new k ≡ pending_part old k
 abbrev pub PendsAt : Row → Row → Ratio → StoreParts → StoreParts → Type 0
 PendsAt key row w old new = (k : Row) → pending_part new k ≡ set_at_key key row w (pending_part old) k
 
--- the key's part is committed, and every other key's committed part stays
-abbrev pub CommitsAt : Row → StoreParts → StoreParts → Type 0
-CommitsAt key old new =
-    (k : Row) → committed_part new k ≡ (if same_row k key then pending_part old k else committed_part old k)
-
--- the key's pending part is taken back, and every other key's pending part stays
-abbrev pub AbortsAt : Row → StoreParts → StoreParts → Type 0
-AbortsAt key old new =
-    (k : Row) → pending_part new k ≡ (if same_row k key then committed_part old k else pending_part old k)
+-- every key's part in the view stays
+abbrev pub SameInView : View → StoreParts → StoreParts → Type 0
+SameInView view old new = (k : Row) → part_in view new k ≡ part_in view old k
 
 -- a part that is kept with nothing pending has rows
 abbrev pub IsSettledPart : HeldDatasets → Type 0

@@ -1,5 +1,5 @@
 -- Tables by row, of which one entry changes or some rows are touched.
-use Rattle.std.specs.Prelude.{◌≡◌, false, if◌then◌else◌, IfSome, List, Option}
+use Rattle.std.specs.Prelude.{◌≡◌, ℕ, false, if◌then◌else◌, IfSome, List, [], Option}
 use Rattle.std.specs.Map.{lookup}
 use Rattle.datasets.specs.Entries.{Row, has_row, same_row}
 
@@ -16,3 +16,7 @@ OthersStay x old new =
 -- every row that is found, and is none of these, is found with a value of P
 abbrev pub AllBut : {V : Type 0} → (V → Type 0) → List Row → List (Row × V) → Type 0
 AllBut P touched es = (x : Row) → has_row touched x ≡ false → IfSome (lookup (same_row x) es) P
+
+-- where no row is touched, the list of touched rows takes no memory
+abbrev pub GivesBack : List Row → ℕ → Type 0
+GivesBack touched capacity = touched ≡ [] → capacity ≡ 0

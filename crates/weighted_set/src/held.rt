@@ -1,11 +1,10 @@
 //! Rows with a committed and a pending weight each.
 ghost use Rattle.std.specs.Prelude.{[], ◌≡◌, ◌+◌, ◌<◌, ◌≤◌, IfOk, OnErr, OnOk, length, slice_get};
-ghost use Rattle.std.specs.Map.{lookup};
 ghost use Rattle.datasets.specs.Dataset.{at, empty, rows};
-ghost use Rattle.datasets.specs.Entries.{is_zero as is_zero_ratio, row_count as row_count_of, same_row};
+ghost use Rattle.datasets.specs.Entries.{is_zero as is_zero_ratio, row_count as row_count_of};
 ghost use Rattle.ratios.specs.Ratio.{zero_ratio};
 ghost use Rattle.weighted_set.specs.Changes.{IsChangeList, entries_of};
-ghost use Rattle.weighted_set.specs.Held.{AbortsRow, CommitsRow, PutsAt, SettlesAt, committed_of, pending_of, viewed_entries, viewed_weight};
+ghost use Rattle.weighted_set.specs.Held.{PendsRow, PutsAt, SettlesAt, SettlesInView, committed_of, pending_of, seen_by, viewed_entries, viewed_weight};
 
 use crate::Memory;
 use crate::weighted::{Change, Weighted};
@@ -32,9 +31,9 @@ pub enum View {
     Pending,
 }
 
-// The weight of a view.
-fn weight_by(view: View, held: Held) -> Frac
-    ensures { result ≡ viewed_weight view held }
+/// The weight of a view.
+pub fn weight_by(view: View, held: &Held) -> Frac
+    ensures { result ≡ viewed_weight view held.now }
 {
     match view {
         View::Committed => held.committed,
@@ -49,12 +48,23 @@ pub fn is_zero(weight: Frac) -> bool
     weight.numer() == 0
 }
 
-// How many rows have a weight because of this one.
-fn row_count(weight: Frac) -> usize
+/// How many rows have a weight because of this one.
+pub fn row_count(weight: Frac) -> usize
     ensures value { result ≡ row_count_of weight }
     ensures small { result ≤ 1 }
 {
     if is_zero(weight) { 0 } else { 1 }
+}
+
+// The weights of a row that is absent.
+fn no_weights() -> Held
+    ensures committed { result.committed ≡ zero_ratio }
+    ensures pending { result.pending ≡ zero_ratio }
+{
+    Held {
+        committed: Frac::zero(),
+        pending: Frac::zero(),
+    }
 }
 
 /// The weights of a row, 0 where it is absent.
@@ -64,10 +74,7 @@ pub fn held_at(table: &BTreeMap<Row, Held>, row: &Row) -> Held
 {
     match table.get(row) {
         Some(held) => *held,
-        None => Held {
-            committed: Frac::zero(),
-            pending: Frac::zero(),
-        },
+        None => no_weights(),
     }
 }
 
@@ -102,41 +109,58 @@ pub fn put(table: &mut BTreeMap<Row, Held>, row: &Row, held: Held) -> Result<(),
     Ok(())
 }
 
-// Makes `weight` both weights of a row, which is absent only where that is 0, and is taken out where it is 0.
-fn settle(table: &mut BTreeMap<Row, Held>, row: &Row, weight: Frac)
-    requires { lookup (same_row row.now) table.old.entries ≡ None → weight ≡ zero_ratio }
-    ensures { SettlesAt row.now weight table.old.entries table.new.entries }
+/// Makes `weight` the pending weight of a row.
+pub fn put_pending(table: &mut BTreeMap<Row, Held>, row: &Row, weight: Frac) -> Result<(), Memory>
+    ensures ok { OnOk result (PendsRow row.now weight table.old.entries table.new.entries) }
+    ensures err { OnErr result (table.new.entries ≡ table.old.entries) }
 {
-    if is_zero(weight) {
-        let _ = table.remove(row);
-    } else if let Some(there) = table.get_mut(row) {
-        *there = Held {
-            committed: weight,
-            pending: weight,
-        };
+    if let Some(there) = table.get_mut(row) {
+        there.pending = weight;
+        return Ok(());
     }
+    let copy = row.try_copy()?;
+    let held = Held {
+        committed: Frac::zero(),
+        pending: weight,
+    };
+    table.insert(copy, held)?;
+    Ok(())
 }
 
-/// Makes the pending weight of a row its committed one. Of how many rows have a committed weight, takes the
+// Makes the weight of a row in a view both its weights, and takes the row out where that is 0. Answers the
+// weights that it had, 0 where it is absent.
+fn settle(table: &mut BTreeMap<Row, Held>, row: &Row, view: View) -> Held
+    ensures committed { result.committed ≡ at (committed_of table.old.entries) row.now }
+    ensures viewed { viewed_weight view result ≡ at (seen_by view table.old.entries) row.now }
+    ensures settled { SettlesAt row.now (viewed_weight view result) table.old.entries table.new.entries }
+{
+    let Some(there) = table.get_mut(row) else {
+        return no_weights();
+    };
+    let held = *there;
+    let kept = weight_by(view, &held);
+    if is_zero(kept) {
+        let _ = table.remove(row);
+        return held;
+    }
+    *there = Held {
+        committed: kept,
+        pending: kept,
+    };
+    held
+}
+
+/// Makes the weight of a row in a view both its weights. Of how many rows have a committed weight, takes the
 /// number before and answers the number after.
-pub fn commit_row(table: &mut BTreeMap<Row, Held>, row: &Row, len: usize) -> usize
+pub fn settle_row(table: &mut BTreeMap<Row, Held>, row: &Row, view: View, len: usize) -> usize
     requires { len ≡ length (rows (committed_of table.old.entries)) }
     ensures counted { result ≡ length (rows (committed_of table.new.entries)) }
-    ensures settled { CommitsRow row.now table.old.entries table.new.entries }
+    ensures settled { SettlesInView view row.now table.old.entries table.new.entries }
 {
     // Tells that a table has room to count its rows.
     let _room = table.len();
-    let held = held_at(table, row);
-    settle(table, row, held.pending);
-    len + row_count(held.pending) - row_count(held.committed)
-}
-
-/// Makes the committed weight of a row its pending one.
-pub fn abort_row(table: &mut BTreeMap<Row, Held>, row: &Row)
-    ensures { AbortsRow row.now table.old.entries table.new.entries }
-{
-    let held = held_at(table, row);
-    settle(table, row, held.committed);
+    let held = settle(table, row, view);
+    len + row_count(weight_by(view, &held)) - row_count(held.committed)
 }
 
 /// Puts the rows with a weight in the view in an empty list, in row order, with one tick for each.
@@ -152,7 +176,7 @@ pub fn read_rows<L: Ledger>(
     ensures at_most { steps.new ≤ steps.old + length (viewed_entries view table.now.entries) }
 {
     for (row, held) in table {
-        let weight = weight_by(view, *held);
+        let weight = weight_by(view, held);
         if !is_zero(weight) {
             steps.tick();
             let row = row.try_copy()?;

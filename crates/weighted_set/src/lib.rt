@@ -10,10 +10,12 @@ mod compared;
 mod held;
 mod laws;
 mod operator;
+mod part;
 mod part_op;
 mod part_store;
 mod set;
 mod source_set;
+mod touched;
 mod weighted;
 mod wset;
 

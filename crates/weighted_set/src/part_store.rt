@@ -5,12 +5,13 @@ ghost use Rattle.datasets.specs.Dataset.{at as weight_at, empty};
 ghost use Rattle.datasets.specs.Entries.{Row as RowValue, same_row};
 ghost use Rattle.weighted_set.specs.Changes.{entries_of};
 ghost use Rattle.weighted_set.specs.Held.{AllInRange};
-ghost use Rattle.weighted_set.specs.Parts.{AbortsAt, CommitsAt, IsSettledPart, PendsAt, SameCommitted, SamePending, committed_part, part_in, pending_part};
+ghost use Rattle.weighted_set.specs.Parts.{IsSettledPart, PendsAt, SameCommitted, SameInView, SamePending, committed_part, part_in, pending_part};
 ghost use Rattle.weighted_set.specs.Tables.{OthersStay};
 
 use crate::Memory;
 use crate::held::View;
-use crate::set::HeldSet;
+use crate::part::Part;
+use crate::touched::note;
 use crate::weighted::Weighted;
 use frac_core::Frac;
 use record_text::Row;
@@ -24,7 +25,7 @@ use steps::Steps;
 #[derive(Drop)]
 pub struct PartStore {
     // The part of each key that has rows, and of keys that are touched.
-    parts: BTreeMap<Row, HeldSet>,
+    parts: BTreeMap<Row, Part>,
     // The keys that were put at since the last commit or abort.
     touched: Vec<Row>,
     alloc: Global,
@@ -35,7 +36,8 @@ impl Model for PartStore {
     ghost use Rattle.record_text.specs.contracts.atom.Atom as atom;
     ghost use Rattle.weighted_set.specs.Held.{held_datasets_code};
     ghost use Rattle.weighted_set.specs.Parts.{IsSettledPart, StoreParts};
-    ghost use Rattle.weighted_set.specs.Tables.{AllBut};
+    ghost use Rattle.weighted_set.specs.Tables.{AllBut, GivesBack};
+    ghost use Rattle.std.specs.Vec.{vec_capacity};
 
     ghost Value = { StoreParts };
 
@@ -43,7 +45,7 @@ impl Model for PartStore {
 
     ghost view = { λ s. s.parts.entries };
 
-    ghost invariant = { λ s. AllBut IsSettledPart s.touched.items s.parts.entries };
+    ghost invariant = { λ s. AllBut IsSettledPart s.touched.items s.parts.entries × GivesBack s.touched.items (vec_capacity s.touched) };
 }
 
 impl PartStore {
@@ -118,10 +120,8 @@ impl PartStore {
         ensures ok { OnOk result (PendsAt key.now row.now weight self.old self.new) }
         ensures err { OnErr result (SamePending self.old self.new) }
     {
-        let note = key.try_copy()?;
-        self.touched.push(note)?;
-        add_key(self.alloc, &mut self.parts, key)?;
-        put_in_part(&mut self.parts, key, row, weight)
+        note(&mut self.touched, key)?;
+        put_at_key(self.alloc, &mut self.parts, key, row, weight)
     }
 
     /// Makes the pending weights the committed ones, and gives back the memory of the list of touched keys.
@@ -129,11 +129,7 @@ impl PartStore {
         ensures committed { (k : RowValue) → committed_part self.new k ≡ pending_part self.old k }
         ensures pending { SamePending self.old self.new }
     {
-        while let Some(key) = self.touched.pop() {
-            commit_part(&mut self.parts, &key);
-            drop_empty(&mut self.parts, &key);
-        }
-        self.touched = Vec::new(self.alloc);
+        self.settle(View::Pending);
     }
 
     /// Makes the committed weights the pending ones, and gives back the memory of the list of touched keys.
@@ -141,82 +137,55 @@ impl PartStore {
         ensures committed { SameCommitted self.old self.new }
         ensures pending { (k : RowValue) → pending_part self.new k ≡ committed_part self.old k }
     {
+        self.settle(View::Committed);
+    }
+
+    // Makes the weights of a view both the committed and the pending ones.
+    fn settle(&mut self, view: View)
+        ensures committed { (k : RowValue) → committed_part self.new k ≡ part_in view self.old k }
+        ensures pending { (k : RowValue) → pending_part self.new k ≡ part_in view self.old k }
+    {
         while let Some(key) = self.touched.pop() {
-            abort_part(&mut self.parts, &key);
-            drop_empty(&mut self.parts, &key);
+            settle_key(&mut self.parts, &key, view);
         }
         self.touched = Vec::new(self.alloc);
     }
 }
 
-// Makes room for a key, with no rows.
-fn add_key(alloc: Global, parts: &mut BTreeMap<Row, HeldSet>, key: &Row) -> Result<(), Memory>
-    ensures committed { SameCommitted parts.old.entries parts.new.entries }
-    ensures pending { SamePending parts.old.entries parts.new.entries }
-    ensures has { OnOk result (IsSome (lookup (same_row key.now) parts.new.entries)) }
-    ensures others { OthersStay key.now parts.old.entries parts.new.entries }
-{
-    if parts.contains_key(key) {
-        return Ok(());
-    }
-    let key = key.try_copy()?;
-    parts.insert(key, HeldSet::new(alloc))?;
-    Ok(())
-}
-
-// Makes `weight` the pending weight of a row at a key that the store has.
-fn put_in_part(
-    parts: &mut BTreeMap<Row, HeldSet>,
+// Makes `weight` the pending weight of a row at a key.
+fn put_at_key(
+    alloc: Global,
+    parts: &mut BTreeMap<Row, Part>,
     key: &Row,
     row: &Row,
     weight: Frac,
 ) -> Result<(), Memory>
-    requires { IsSome (lookup (same_row key.now) parts.old.entries) }
     ensures committed { SameCommitted parts.old.entries parts.new.entries }
     ensures ok { OnOk result (PendsAt key.now row.now weight parts.old.entries parts.new.entries) }
     ensures err { OnErr result (SamePending parts.old.entries parts.new.entries) }
     ensures others { OthersStay key.now parts.old.entries parts.new.entries }
 {
-    match parts.get_mut(key) {
-        Some(part) => part.put_pending(row, weight),
-        None => unreachable!(),
-    }
-}
-
-// Makes the pending weights of a key the committed ones.
-fn commit_part(parts: &mut BTreeMap<Row, HeldSet>, key: &Row)
-    ensures committed { CommitsAt key.now parts.old.entries parts.new.entries }
-    ensures pending { SamePending parts.old.entries parts.new.entries }
-    ensures others { OthersStay key.now parts.old.entries parts.new.entries }
-{
     if let Some(part) = parts.get_mut(key) {
-        part.commit();
+        return part.put_pending(alloc, row, weight);
     }
+    let part = Part::of_row(row, weight)?;
+    let key = key.try_copy()?;
+    parts.insert(key, part)?;
+    Ok(())
 }
 
-// Makes the committed weights of a key the pending ones.
-fn abort_part(parts: &mut BTreeMap<Row, HeldSet>, key: &Row)
-    ensures committed { SameCommitted parts.old.entries parts.new.entries }
-    ensures pending { AbortsAt key.now parts.old.entries parts.new.entries }
-    ensures others { OthersStay key.now parts.old.entries parts.new.entries }
-{
-    if let Some(part) = parts.get_mut(key) {
-        part.abort();
-    }
-}
-
-// Takes a part without rows, of which nothing is pending, out.
-fn drop_empty(parts: &mut BTreeMap<Row, HeldSet>, key: &Row)
-    requires { pending_part parts.old.entries key.now ≡ committed_part parts.old.entries key.now }
-    ensures committed { SameCommitted parts.old.entries parts.new.entries }
-    ensures pending { SamePending parts.old.entries parts.new.entries }
+// Makes the weights of a view both the committed and the pending ones of a key, and takes it out where it has
+// no rows then.
+fn settle_key(parts: &mut BTreeMap<Row, Part>, key: &Row, view: View)
+    ensures viewed { SameInView view parts.old.entries parts.new.entries }
     ensures others { OthersStay key.now parts.old.entries parts.new.entries }
     ensures settled { IfSome (lookup (same_row key.now) parts.new.entries) IsSettledPart }
 {
-    let Some(part) = parts.get(key) else {
+    let Some(part) = parts.get_mut(key) else {
         return;
     };
-    if part.len() == 0 {
+    part.settle(view);
+    if part.is_empty() {
         let _ = parts.remove(key);
     }
 }

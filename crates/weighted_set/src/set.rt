@@ -3,13 +3,14 @@ ghost use Rattle.std.specs.Prelude.{◌≡◌, ◌+◌, ◌<◌, ◌≤◌, [], 
 ghost use Rattle.datasets.specs.Dataset.{at as weight_at, empty, rows, set_at};
 ghost use Rattle.weighted_set.specs.Adding.{AreChangesOfAdding, IsAddFault};
 ghost use Rattle.weighted_set.specs.Changes.{AreChangesOf, IsChangeList, applied, entries_of};
-ghost use Rattle.weighted_set.specs.Held.{AllInRange, viewed};
+ghost use Rattle.weighted_set.specs.Held.{AllInRange, one_held, viewed};
 
 use crate::Memory;
 use crate::adding::{AddFault, add_all, changes_in, first_negative};
 use crate::held::{
-    Held, View, abort_row, all_changes, commit_row, entry_at, held_at, put, read_rows,
+    Held, View, all_changes, entry_at, held_at, put, put_pending, read_rows, row_count, settle_row,
 };
+use crate::touched::note;
 use crate::weighted::{Change, Weighted};
 use frac_core::Frac;
 use record_text::Row;
@@ -34,6 +35,8 @@ pub struct HeldSet {
 
 impl Model for HeldSet {
     ghost use Rattle.weighted_set.specs.Held.{HeldDatasets, IsSet, committed_of, held_datasets_code, pending_of};
+    ghost use Rattle.weighted_set.specs.Tables.{GivesBack};
+    ghost use Rattle.std.specs.Vec.{vec_capacity};
 
     ghost Value = { HeldDatasets };
 
@@ -41,7 +44,7 @@ impl Model for HeldSet {
 
     ghost view = { λ s. record { committed = committed_of s.table.entries; pending = pending_of s.table.entries } };
 
-    ghost invariant = { λ s. IsSet s.table.entries s.touched.items s.len };
+    ghost invariant = { λ s. IsSet s.table.entries s.touched.items s.len × GivesBack s.touched.items (vec_capacity s.touched) };
 }
 
 impl HeldSet {
@@ -56,6 +59,26 @@ impl HeldSet {
             len: 0,
             alloc,
         }
+    }
+
+    /// A set of one row. What is pending of it is kept as touched.
+    pub(crate) fn of_row(alloc: Global, row: &Row, held: Held) -> Result<HeldSet, Memory>
+        ensures { IfOk result (λ set. set ≡ one_held row.now held) }
+    {
+        let len = row_count(held.committed);
+        // They tell that the weights are in range.
+        let _committed = held.committed.numer();
+        let _pending = held.pending.numer();
+        let mut touched = Vec::new(alloc);
+        note(&mut touched, row)?;
+        let mut table = BTreeMap::new(alloc);
+        put(&mut table, row, held)?;
+        Ok(HeldSet {
+            table,
+            touched,
+            len,
+            alloc,
+        })
     }
 
     /// How many rows there are.
@@ -127,16 +150,11 @@ impl HeldSet {
 
     // The changes up to a refusal are pending.
     fn put_all(&mut self, changes: &[Change]) -> Result<(), Memory>
-        requires { AreChangesOf changes.now self.old.committed }
         ensures committed { self.new.committed ≡ self.old.committed }
         ensures ok { OnOk result (self.new.pending ≡ applied self.old.pending changes.now) }
     {
         for change in changes {
-            let held = Held {
-                committed: change.old,
-                pending: change.new,
-            };
-            self.put_held(&change.row, held)?;
+            self.put_pending(&change.row, change.new)?;
         }
         Ok(())
     }
@@ -147,25 +165,10 @@ impl HeldSet {
         ensures ok { OnOk result (self.new.pending ≡ set_at row.now weight self.old.pending) }
         ensures err { OnErr result (self.new.pending ≡ self.old.pending) }
     {
-        let held = Held {
-            committed: self.weight(row),
-            pending: weight,
-        };
-        self.put_held(row, held)
-    }
-
-    // Puts the weights of a row, whose committed one stays.
-    fn put_held(&mut self, row: &Row, held: Held) -> Result<(), Memory>
-        requires { held.committed ≡ weight_at self.old.committed row.now }
-        ensures committed { self.new.committed ≡ self.old.committed }
-        ensures ok { OnOk result (self.new.pending ≡ set_at row.now held.pending self.old.pending) }
-        ensures err { OnErr result (self.new.pending ≡ self.old.pending) }
-    {
-        let note = row.try_copy()?;
-        self.touched.push(note)?;
+        note(&mut self.touched, row)?;
         // Tells that the weight is in range.
-        let _numerator = held.pending.numer();
-        put(&mut self.table, row, held)?;
+        let _numerator = weight.numer();
+        put_pending(&mut self.table, row, weight)?;
         Ok(())
     }
 
@@ -197,10 +200,7 @@ impl HeldSet {
         ensures committed { self.new.committed ≡ self.old.pending }
         ensures pending { self.new.pending ≡ self.old.pending }
     {
-        while let Some(row) = self.touched.pop() {
-            self.len = commit_row(&mut self.table, &row, self.len);
-        }
-        self.touched = Vec::new(self.alloc);
+        self.settle(View::Pending);
     }
 
     /// Makes the committed weights the pending ones, and gives back the memory of the list of touched rows.
@@ -208,8 +208,16 @@ impl HeldSet {
         ensures committed { self.new.committed ≡ self.old.committed }
         ensures pending { self.new.pending ≡ self.old.committed }
     {
+        self.settle(View::Committed);
+    }
+
+    /// Makes the weights of a view both the committed and the pending ones.
+    pub(crate) fn settle(&mut self, view: View)
+        ensures committed { self.new.committed ≡ viewed view self.old }
+        ensures pending { self.new.pending ≡ viewed view self.old }
+    {
         while let Some(row) = self.touched.pop() {
-            abort_row(&mut self.table, &row);
+            self.len = settle_row(&mut self.table, &row, view, self.len);
         }
         self.touched = Vec::new(self.alloc);
     }

@@ -95,12 +95,14 @@ impl WSet {
         Ok(())
     }
 
-    /// Moves the rows behind a list, in row order, each with its weight.
+    /// Moves the rows behind a list, in row order, each with its weight. After a refusal the list is as it was.
     pub fn append_to(self, into: &mut Vec<Weighted>) -> Result<(), Memory>
-        ensures { OnOk result (entries_of into.new.items ≡ entries_of into.old.items ++ self.entries) }
+        ensures ok { OnOk result (entries_of into.new.items ≡ entries_of into.old.items ++ self.entries) }
+        ensures err { OnErr result (into.new.items ≡ into.old.items) }
     {
+        into.reserve(self.table.len())?;
         for (row, weight) in self.table {
-            into.push(Weighted { row, weight })?;
+            into.push_reserved(Weighted { row, weight });
         }
         Ok(())
     }

@@ -10,8 +10,8 @@ returns-in-Some-clause-pending c = ap (weight_found (λ h. h.pending)) c.in-Some
 
 pub returns-in-None-clause-committed : goal.returns-in-None-clause-committed
 returns-in-None-clause-committed c =
-    c.zero.ensures ∙ ap (weight_found (λ h. h.committed)) c.in-None.ensures.value ∙ sym (at-dataset_by (λ h. h.committed) c.args.table.now.entries c.args.row.now)
+    c.no_weights.ensures.committed ∙ ap (weight_found (λ h. h.committed)) c.in-None.ensures.value ∙ sym (at-dataset_by (λ h. h.committed) c.args.table.now.entries c.args.row.now)
 
 pub returns-in-None-clause-pending : goal.returns-in-None-clause-pending
 returns-in-None-clause-pending c =
-    c.zero-in-None.ensures ∙ ap (weight_found (λ h. h.pending)) c.in-None.ensures.value ∙ sym (at-dataset_by (λ h. h.pending) c.args.table.now.entries c.args.row.now)
+    c.no_weights.ensures.pending ∙ ap (weight_found (λ h. h.pending)) c.in-None.ensures.value ∙ sym (at-dataset_by (λ h. h.pending) c.args.table.now.entries c.args.row.now)

@@ -41,7 +41,7 @@ returns-in-Ok-clause-ok g c =
     let left = c.args.left.now in
     let falling = subst (λ (xs : List (Bor Weighted)). IsByWeight (entries_of left) (ordered xs)) (sym c.as_slice.ensures.value) c.in_ok-order.ensures in
     let out = walked_in left c.requires.left_listed c.as_slice.result.now falling c.self.inside.reduce c.args.key.now c.in_ok-sums.sums c.in_ok-sums.ensures.ok in
-    c.in-Ok.ensures
+    c.in-Ok.ensures.ok
     ∙ ap (λ (xs : List Weighted). entries_of xs ++ c.in_ok-sums.sums.entries) c.clear.ensures.items
     ∙ ap (λ (A : Dataset). A.entries) (out.1 ∙ ap (λ (op : GroupParts). group_part (reduced_to op.reduce) c.args.key.now (listed left)) c.self.view_is)
 

@@ -4,7 +4,8 @@ use Rattle.weighted_set.proofs.Sets.{dataset_of-none, new_is_set}
 use Rattle.weighted_set.proofs.set.HeldSet.new.Goals as goal
 
 pub invariant_of-result : goal.invariant_of-result
-invariant_of-result c = new_is_set c.new.result.entries c.new-2.result.items c.new.ensures.empty c.new-2.ensures.items
+invariant_of-result c =
+    (new_is_set c.new.result.entries c.new-2.result.items c.new.ensures.empty c.new-2.ensures.items, λ none. c.new-2.ensures.capacity)
 
 pub returns-clause-committed : goal.returns-clause-committed
 returns-clause-committed c = ap committed_of c.new.ensures.empty ∙ dataset_of-none
