@@ -3,5 +3,6 @@ pub mod Stepping
 pub mod Pairs
 pub mod Evaluated
 pub mod Next
+pub mod Works
 pub mod RowsHeld
 pub mod NodesWired

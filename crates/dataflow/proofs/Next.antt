@@ -17,7 +17,7 @@ use Rattle.weighted_set.proofs.Sets.{AllInRange-empty}
 use Rattle.dataflow.specs.declared.wire.Wire.{Wire}
 use Rattle.dataflow.specs.declared.wire.Wire.TheVariants.{Source, Of}
 use Rattle.dataflow.specs.Changes.{AreFamilyChanges, changes_at, right_changes, step_changes}
-use Rattle.dataflow.specs.Evaluation.{Family, dataset_at, evals, fits_at, meaning_at, right_dataset, step_output, step_passes, takes_at}
+use Rattle.dataflow.specs.Evaluation.{Family, dataset_at, evals, fits_at, right_dataset, step_output, step_passes, takes_at}
 use Rattle.dataflow.specs.Standing.{HasStepped, MayChange, MayStep, OfInputs, StepsStand, meanings}
 use Rattle.dataflow.specs.Wiring.{AreWired, RefersBefore, RightBefore, wire_at}
 use Rattle.dataflow.proofs.Evaluated.{evals-at, meaning_at-is}

@@ -1,5 +1,5 @@
 -- What nodes with their wires and output stand for, from what each node stands for.
-use Rattle.std.proofs.Common.{◌≡◌, ℕ, ◌<◌, List, ◌-◌, length, get_or, map, ap, sym, ◌∙◌, subst, arith}
+use Rattle.std.proofs.Common.{◌≡◌, ◌<◌, List, ◌-◌, length, get_or, ap, sym, ◌∙◌, subst, arith}
 use Rattle.std.specs.Prelude.{Some, slice_get}
 use Rattle.std.proofs.lemmas.Option.{slice_get-get_or, slice_get_within}
 use Rattle.datasets.specs.Dataset.{Dataset, at}
@@ -15,7 +15,7 @@ use Rattle.dataflow.specs.Changes.{changes_at}
 use Rattle.dataflow.specs.Evaluation.{Family, evals, last_output}
 use Rattle.dataflow.specs.Outputs.{HoldRows}
 use Rattle.dataflow.specs.Wiring.{wire_at}
-use Rattle.dataflow.specs.Standing.{AreIdle, CommitsInputs, EachPair, EachStep, HaveStepped, KeepsInputs, OfInputs, StepsPend, StepsStand, meanings}
+use Rattle.dataflow.specs.Standing.{CommitsInputs, EachPair, EachStep, HaveStepped, KeepsInputs, OfInputs, meanings}
 use Rattle.dataflow.proofs.Pairs.{same_count}
 use Rattle.dataflow.specs.Wired.{AreAtRest, WiresPend, WiresStand}
 

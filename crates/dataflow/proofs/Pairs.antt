@@ -1,10 +1,9 @@
 -- Operators before and after, one place at a time.
 use Rattle.std.proofs.Common.{◌≡◌, ◌≢◌, inl, inr, ℕ, zero, suc, ◌+◌, ◌<◌, ◌≤◌, List, [], ◌∷◌, length, get_or, map, refl, ap, sym, ◌∙◌, subst, arith, length-set}
-use Rattle.std.specs.Prelude.{Some, None, slice_get, slice_set, ◌↔◌}
+use Rattle.std.specs.Prelude.{Some, None, slice_get, slice_set}
 use Rattle.std.proofs.lemmas.Bool.Decides.{eqb_tells, leb_tells}
 use Rattle.std.proofs.lemmas.List.{length-map}
 use Rattle.std.proofs.lemmas.Option.{slice_get-get_or, slice_get_within}
-use Rattle.datasets.specs.Dataset.{Dataset}
 use Rattle.weighted_set.specs.Standing.{Standing}
 use Rattle.dataflow.specs.Standing.{EachPair, KeepsInputs, meanings}
 

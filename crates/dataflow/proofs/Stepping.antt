@@ -2,7 +2,7 @@
 use Rattle.std.proofs.Common.{◌≡◌, ℕ, false, List, subst, sym}
 use Rattle.std.specs.Prelude.{Option, Result, Ok, Err, IfErr}
 use Rattle.datasets.specs.Dataset.{Dataset}
-use Rattle.weighted_set.specs.Standing.{MayBecome, Standing}
+use Rattle.weighted_set.specs.Standing.{IsWithin, KeepsWork, MayBecome, Standing}
 use Rattle.weighted_set.specs.declared.part_op.OpFault.{OpFault}
 use Rattle.weighted_set.specs.declared.part_op.OpFault.TheVariants.{Range}
 use Rattle.weighted_set.specs.declared.weighted.Change.{Change}
@@ -10,7 +10,8 @@ use Rattle.dataflow.specs.declared.wire.Wire.{Wire}
 use Rattle.dataflow.specs.declared.wire.Wire.TheVariants.{Of}
 use Rattle.dataflow.specs.Changes.{changes_at, right_changes}
 use Rattle.dataflow.specs.Evaluation.{dataset_at, right_dataset, step_passes}
-use Rattle.dataflow.specs.Standing.{MayStep}
+use Rattle.dataflow.specs.Standing.{MayStep, StepKeepsWork}
+use Rattle.dataflow.specs.Work.{step_work}
 
 module _ (of : Standing) (wires : List Wire) (sources lists : List (List Change)) (wire : Wire)
     (left : ℕ) (right : Option ℕ) (is : wire ≡ Of left right)
@@ -38,3 +39,8 @@ module _ (of : Standing) (wires : List Wire) (sources lists : List (List Change)
   range_of (Ok x) h = tt
   range_of (Err e) h = λ q As Bs m.
       subst (λ w. step_passes of.meaning.fits w Bs ≡ false) (sym is) (h q (dataset_at As left) (right_dataset As right) (dataset_at Bs left) (right_dataset Bs right) (inputs_of As Bs m))
+
+  pub work_of : (a b : ℕ) → KeepsWork of left_list right_list a b → StepKeepsWork of wires sources lists wire a b
+  work_of a b h As Bs m =
+      subst (λ w. IsWithin a (step_work of.meaning.work w As Bs) b) (sym is)
+      (h (dataset_at As left) (right_dataset As right) (dataset_at Bs left) (right_dataset Bs right) (inputs_of As Bs m))

@@ -1,5 +1,6 @@
 pub mod Wiring
 pub mod Evaluation
+pub mod Work
 pub mod Changes
 pub mod Standing
 pub mod Outputs

@@ -2,13 +2,14 @@
 use Rattle.std.specs.Prelude.{◌≡◌, ℕ, ◌<◌, true, false, List, map, Some, slice_get}
 use Rattle.datasets.specs.Dataset.{Dataset}
 use Rattle.weighted_set.specs.Held.{AllInRange}
-use Rattle.weighted_set.specs.Standing.{HasAnswered, MayBecome, Meaning, Standing}
+use Rattle.weighted_set.specs.Standing.{HasAnswered, IsWithin, MayBecome, Meaning, Standing}
 use Rattle.weighted_set.specs.declared.weighted.Change.{Change}
 use Rattle.dataflow.specs.declared.wire.Wire.{Wire}
 use Rattle.dataflow.specs.declared.wire.Wire.TheVariants.{Source, Of}
 use Rattle.dataflow.specs.Changes.{AreFamilyChanges, AreStepChanges, changes_at, right_changes}
 use Rattle.dataflow.specs.Evaluation.{Family, dataset_at, evals, fits_at, right_dataset, step_passes, takes_at}
 use Rattle.dataflow.specs.Wiring.{wire_at}
+use Rattle.dataflow.specs.Work.{all_works, step_work}
 
 -- ---- facts of each step
 
@@ -94,6 +95,11 @@ abbrev pub StepMisfits : Standing → List Wire → List (List Change) → List 
 StepMisfits of wires sources lists wire =
     (As Bs : List Dataset) → MayStep of wires sources lists As Bs wire → step_passes of.meaning.fits wire Bs ≡ false
 
+-- whatever the changes make of the steps' datasets, the ticks are within the work of a step
+abbrev pub StepKeepsWork : Standing → List Wire → List (List Change) → List (List Change) → Wire → ℕ → ℕ → Type 0
+StepKeepsWork of wires sources lists wire old new =
+    (As Bs : List Dataset) → MayStep of wires sources lists As Bs wire → IsWithin old (step_work of.meaning.work wire As Bs) new
+
 -- ---- all steps
 
 -- each step lists its changes, fits its inputs, and what is pending in it is what the sources G give it
@@ -116,3 +122,9 @@ HaveAnswered of old new wires sources lists =
 abbrev pub Misfits : {N : Type 0} → (N → Standing) → List N → List Wire → List (List Change) → ℕ → Type 0
 Misfits of nodes wires sources i =
     (F G : Family) → StepsStand of nodes wires F → MayChange (meanings of nodes) wires sources F G → IsMisfit (meanings of nodes) wires G i
+
+-- whatever the changes make of the sources, the ticks are within the work of all steps
+abbrev pub KeepWork : {N : Type 0} → (N → Standing) → List N → List Wire → List (List Change) → ℕ → ℕ → Type 0
+KeepWork of nodes wires sources old new =
+    (F G : Family) → StepsStand of nodes wires F → MayChange (meanings of nodes) wires sources F G
+    → IsWithin old (all_works (meanings of nodes) wires F G) new

@@ -2,11 +2,12 @@
 use Rattle.std.specs.Prelude.{◌≡◌, ℕ, true, List}
 use Rattle.datasets.specs.Entries.{Row}
 use Rattle.weighted_set.specs.Parts.{StoreParts, committed_part, pending_part}
-use Rattle.weighted_set.specs.Standing.{Standing}
+use Rattle.weighted_set.specs.Standing.{IsWithin, Standing}
 use Rattle.weighted_set.specs.declared.weighted.Change.{Change}
 use Rattle.dataflow.specs.Evaluation.{Family, fits_at, last_output}
 use Rattle.dataflow.specs.Outputs.{HoldRows}
 use Rattle.dataflow.specs.Standing.{AreIdle, IsMisfit, MayChange, StepsPend, StepsStand, meanings}
+use Rattle.dataflow.specs.Work.{wired_work}
 use Rattle.dataflow.specs.declared.wire.Wire.{Wire}
 
 -- nothing is pending in the nodes and in the output
@@ -43,6 +44,12 @@ WiresTurn of old out new after wires sources =
 abbrev pub WiresMisfit : {N : Type 0} → (N → Standing) → List N → StoreParts → List Wire → List (List Change) → ℕ → Type 0
 WiresMisfit of nodes out wires sources i =
     (F G : Family) → WiresStand of nodes out wires F → MayChange (meanings of nodes) wires sources F G → IsMisfit (meanings of nodes) wires G i
+
+-- whatever the changes make of the sources, the ticks are within the work of the steps and the output
+abbrev pub WiresKeepWork : {N : Type 0} → (N → Standing) → List N → StoreParts → List Wire → List (List Change) → ℕ → ℕ → Type 0
+WiresKeepWork of nodes out wires sources old new =
+    (F G : Family) → WiresStand of nodes out wires F → MayChange (meanings of nodes) wires sources F G
+    → IsWithin old (wired_work (meanings of nodes) wires F G) new
 
 -- what they stood for they stand for
 abbrev pub WiresKeep : {N : Type 0} → (N → Standing) → List N → StoreParts → List N → StoreParts → List Wire → Type 0

@@ -1,7 +1,7 @@
 //! Changes, sent through all steps.
 ghost use Rattle.std.specs.Prelude.{◌++◌, ◌∷◌, ◌≡◌, ℕ, ◌<◌, IfErr, OnErr, OnOk, [], length, map};
 ghost use Rattle.dataflow.specs.Faults.{fault_at};
-ghost use Rattle.dataflow.specs.Standing.{AreIdle, CommitsInputs, EachPair, HaveAnswered, HaveInputs, KeepsInputs, Misfits, meanings};
+ghost use Rattle.dataflow.specs.Standing.{AreIdle, CommitsInputs, EachPair, HaveAnswered, HaveInputs, KeepWork, KeepsInputs, Misfits, meanings};
 ghost use Rattle.dataflow.specs.Wiring.{AreWired};
 ghost use Rattle.dataflow.specs.declared.passes.GraphFault.TheVariants as fault;
 
@@ -31,7 +31,7 @@ impl From<Memory> for GraphFault {
 
 /// Makes the changes of the sources, a list for each, pending in all steps, and lists the changes of each step's
 /// output; the list of a source stays empty, and `changes_at` tells its changes. `lists` is emptied first. After a
-/// refusal nothing is pending, and no list is left.
+/// refusal nothing is pending, and no list is left. It takes at most eight ticks for each unit of the steps' work.
 pub fn prepare_all<N: Operator, L: Ledger>(
     alloc: Global,
     nodes: &mut [N],
@@ -47,6 +47,7 @@ pub fn prepare_all<N: Operator, L: Ledger>(
     ensures length { OnOk result (length lists.new.items ≡ length wires.now) }
     ensures ok { let given = map (λ s. s.now) sources.now in OnOk result (HaveAnswered N.standing nodes.old nodes.new wires.now given (map (λ l. l.items) lists.new.items)) }
     ensures range { let given = map (λ s. s.now) sources.now in IfErr result (λ e. (i : ℕ) → e ≡ fault.Range i → Misfits N.standing nodes.old wires.now given i) }
+    ensures work { let given = map (λ s. s.now) sources.now in KeepWork N.standing nodes.old wires.now given steps.old steps.new }
     ensures committed { EachPair (KeepsInputs N.standing) nodes.old nodes.new }
     ensures same { meanings N.standing nodes.new ≡ meanings N.standing nodes.old }
     ensures err { OnErr result (AreIdle N.standing nodes.new × (lists.new.items ≡ [])) }
@@ -79,6 +80,7 @@ fn prepare_each<N: Operator, L: Ledger>(
     ensures length { OnOk result (length lists.new.items ≡ length wires.now) }
     ensures ok { let given = map (λ s. s.now) sources.now in OnOk result (HaveAnswered N.standing nodes.old nodes.new wires.now given (map (λ l. l.items) lists.new.items)) }
     ensures range { let given = map (λ s. s.now) sources.now in IfErr result (λ e. (i : ℕ) → e ≡ fault.Range i → Misfits N.standing nodes.old wires.now given i) }
+    ensures work { let given = map (λ s. s.now) sources.now in KeepWork N.standing nodes.old wires.now given steps.old steps.new }
     ensures committed { EachPair (KeepsInputs N.standing) nodes.old nodes.new }
     ensures same { meanings N.standing nodes.new ≡ meanings N.standing nodes.old }
 {

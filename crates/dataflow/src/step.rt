@@ -1,7 +1,7 @@
 //! One step of a plan.
 ghost use Rattle.std.specs.Prelude.{◌≡◌, ◌<◌, IfErr, OnOk, false, length, map};
 ghost use Rattle.dataflow.specs.Changes.{changes_at as changes_of_step, right_changes};
-ghost use Rattle.dataflow.specs.Standing.{KeepsInputs, StepAnswers, StepHasInputs, StepMisfits};
+ghost use Rattle.dataflow.specs.Standing.{KeepsInputs, StepAnswers, StepHasInputs, StepKeepsWork, StepMisfits};
 ghost use Rattle.dataflow.specs.Wiring.{AreWired, RightBefore, wire_at};
 ghost use Rattle.weighted_set.specs.declared.part_op.OpFault.TheVariants as fault;
 
@@ -47,7 +47,7 @@ fn right_changes<'a>(
 }
 
 /// Makes the changes of the inputs of the step at a place pending, and lists those of its output. `lists` has the
-/// lists of the steps before. `out` stays as it is for a source.
+/// lists of the steps before. `out` stays as it is for a source, which takes no ticks.
 pub fn prepare_step<N: Operator, L: Ledger>(
     node: &mut N,
     wires: &[Wire],
@@ -64,6 +64,7 @@ pub fn prepare_step<N: Operator, L: Ledger>(
     requires inputs { let given = map (λ s. s.now) sources.now in StepHasInputs (N.standing node.old) wires.now given (map (λ l. l.items) lists.now) (wire_at wires.now at) }
     ensures ok { let given = map (λ s. s.now) sources.now in let made = map (λ l. l.items) lists.now in OnOk result (StepAnswers (N.standing node.old) (N.standing node.new) out.new.items wires.now given made (wire_at wires.now at)) }
     ensures range { let given = map (λ s. s.now) sources.now in let made = map (λ l. l.items) lists.now in IfErr result (λ e. e ≡ fault.Range → StepMisfits (N.standing node.old) wires.now given made (wire_at wires.now at)) }
+    ensures work { let given = map (λ s. s.now) sources.now in let made = map (λ l. l.items) lists.now in StepKeepsWork (N.standing node.old) wires.now given made (wire_at wires.now at) steps.old steps.new }
     ensures committed { KeepsInputs N.standing node.old node.new }
     ensures same { (N.standing node.new).meaning ≡ (N.standing node.old).meaning }
 {

@@ -10,7 +10,7 @@ ghost use Rattle.datasets.specs.Dataset.{Dataset};
 ghost use Rattle.datasets.specs.Entries.{Row};
 ghost use Rattle.weighted_set.specs.Changes.{applied};
 ghost use Rattle.weighted_set.specs.Parts.{committed_part, pending_part};
-ghost use Rattle.dataflow.specs.Wired.{AreAtRest, WiresCommit, WiresHaveInputs, WiresKeep, WiresMisfit, WiresTurn};
+ghost use Rattle.dataflow.specs.Wired.{AreAtRest, WiresCommit, WiresHaveInputs, WiresKeep, WiresKeepWork, WiresMisfit, WiresTurn};
 
 use crate::passes::{GraphFault, abort_all, commit_all, prepare_all};
 use crate::rows::put_rows;
@@ -42,7 +42,8 @@ fn put_last<L: Ledger>(
 }
 
 /// Makes the changes of the sources, a list for each, pending in all nodes and in the output. `Range` names the
-/// first step that doesn't fit. After a refusal nothing is pending.
+/// first step that doesn't fit. After a refusal nothing is pending. It takes at most eight ticks for each unit of the
+/// steps' work, and one for each changed row of the output.
 pub fn prepare_wired<N: Operator, L: Ledger>(
     alloc: Global,
     nodes: &mut [N],
@@ -58,6 +59,7 @@ pub fn prepare_wired<N: Operator, L: Ledger>(
     requires inputs { WiresHaveInputs N.standing nodes.old out.old wires.now (map (λ s. s.now) sources.now) }
     ensures ok { let given = map (λ s. s.now) sources.now in OnOk result (WiresTurn N.standing nodes.old out.old nodes.new out.new wires.now given) }
     ensures range { let given = map (λ s. s.now) sources.now in IfErr result (λ e. (i : ℕ) → e ≡ fault.Range i → WiresMisfit N.standing nodes.old out.old wires.now given i) }
+    ensures work { let given = map (λ s. s.now) sources.now in WiresKeepWork N.standing nodes.old out.old wires.now given steps.old steps.new }
     ensures err { OnErr result (AreAtRest N.standing nodes.new out.new) }
     ensures committed { WiresKeep N.standing nodes.old out.old nodes.new out.new wires.now }
     ensures same { meanings N.standing nodes.new ≡ meanings N.standing nodes.old }

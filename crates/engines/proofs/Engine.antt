@@ -1,5 +1,5 @@
 -- What outputs worked out key by key say of the whole output.
-use Rattle.std.specs.Prelude.{◌≡◌, ◌≢◌, ◌↔◌, ◌⊎◌, Bool, true, false, All, List, refl}
+use Rattle.std.specs.Prelude.{◌≡◌, ◌≢◌, ◌↔◌, ◌⊎◌, ℕ, ◌+◌, ◌*◌, ◌≤◌, Bool, true, false, All, List, refl}
 use Rattle.std.proofs.Common.{sym, ap, subst, ◌∙◌, inl, inr, true≢false}
 use Rattle.std.proofs.lemmas.Bool.{false_from_ne_true}
 use Rattle.ratios.specs.Ratio.{zero_ratio}
@@ -17,9 +17,13 @@ use Rattle.engines.specs.Engines.{keyed_standing, settled_by, settled_standing}
 use Rattle.engines.specs.Products.{changes_in_range}
 use Rattle.engines.specs.Standing.{ArePartsOf, HoldParts, PutInputs}
 use Rattle.engines.specs.Staging.{AreStaged, outputs_by}
+use Rattle.engines.specs.Ticks.{changes_ticks, keys_ticks}
+use Rattle.engines.specs.Work.{part_work}
 use Rattle.weighted_set.specs.Parts.{StoreParts, committed_part, pending_part}
 use Rattle.engines.proofs.Products.{FactoredInRange-applied, changes_in_range-factored}
 use Rattle.engines.proofs.Staged.{staged_step}
+use Rattle.engines.proofs.TouchedKeys.{touched_keys_are}
+use Rattle.engines.proofs.WithinWork.{keys-within_work}
 
 -- a changed row has a weight before or after
 pub rows_of_changes : (TakesRow : Row → Type 0) (A B : Dataset) (cs : List Change) → ((x : Row) → at A x ≢ zero_ratio → TakesRow x) → ((x : Row) → at B x ≢ zero_ratio → TakesRow x) → IsChangeList cs A B → All (λ c. TakesRow c.row) cs
@@ -124,6 +128,14 @@ module _ {left_keys right_keys : Row → Dataset} {owner : Row → Row} {outputs
         (λ k n.
         let apart = ap (λ ks. has_row ks k) (sym same) ∙ n in
         ap (λ X. outputs k X (committed_part new_right k)) (left_same k apart) ∙ ap (outputs k (pending_part new_left k)) (right_same k apart))
+
+    -- what is put, and then read and handed on at the touched keys, is within the work
+    pub ticks_after : (keys : List Row) → keys ≡ touched → (a b c : ℕ)
+        → b ≤ a + (changes_ticks left_keys left + changes_ticks right_keys right)
+        → c ≤ b + keys_ticks new_left new_right keys → c ≤ a + 8 * part_work left_keys right_keys A B C D
+    ticks_after keys same a b c =
+        keys-within_work left_keys right_keys left right A B C D m.left_changes m.right_changes new_left new_right held_before held_after keys
+        (same ∙ touched_keys_are left_keys right_keys left right A B C D m.left_changes m.right_changes touched put.rising put.changed) a b c
 
     -- ---- what fits
     factored_before : FactoredInRange left_keys A × FactoredInRange right_keys B

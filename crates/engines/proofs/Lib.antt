@@ -1,6 +1,9 @@
 pub mod Products
 pub mod Pending
 pub mod Touched
+pub mod TouchedKeys
+pub mod RowsAtKeys
+pub mod WithinWork
 pub mod Staged
 pub mod Engine
 pub mod WholeInputs

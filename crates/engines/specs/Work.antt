@@ -1,13 +1,7 @@
 -- How much of the inputs of an operator by key a change touches.
-use Rattle.std.specs.Prelude.{ℕ, ◌+◌, Bool, not, List, [], filter, fold, length, map, sum}
-use Rattle.std.specs.Ordering.{eq_by_cmp}
-use Rattle.ratios.specs.Ratio.{ratio_cmp}
-use Rattle.datasets.specs.Dataset.{Dataset, at, rows, rows_of_either, with_rows}
+use Rattle.std.specs.Prelude.{ℕ, ◌+◌, List, [], filter, fold, length, map, sum}
+use Rattle.datasets.specs.Dataset.{Dataset, differing, rows, rows_of_either, with_rows}
 use Rattle.datasets.specs.Entries.{Row, has_row}
-
--- the rows whose weights in A and in C differ
-abbrev pub differing : Dataset → Dataset → List Row
-differing A C = filter (λ x. not (eq_by_cmp ratio_cmp (at A x) (at C x))) (rows_of_either A C)
 
 -- the keys that a row belongs to whose weights differ, in order
 abbrev pub touched_by : (Row → Dataset) → Dataset → Dataset → List Row

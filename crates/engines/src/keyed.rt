@@ -2,7 +2,7 @@
 ghost use Rattle.std.specs.Prelude.{◌≡◌, ◌+◌, ◌≤◌, ◌⊎◌, All, IfErr, IfOk, false};
 ghost use Rattle.datasets.specs.Dataset.{empty};
 ghost use Rattle.datasets.specs.Entries.{Row};
-ghost use Rattle.weighted_set.specs.Standing.{AnswersChanges, ChangesMisfit, HasInputs};
+ghost use Rattle.weighted_set.specs.Standing.{AnswersChanges, ChangesMisfit, HasInputs, KeepsWork};
 ghost use Rattle.weighted_set.specs.declared.part_op.OpFault.TheVariants as fault;
 ghost use Rattle.weighted_set.specs.declared.part_op.Side.TheVariants.{Left, Right};
 ghost use Rattle.engines.specs.Engines.{keyed_standing, settled_standing};
@@ -44,6 +44,25 @@ impl<O: PartOp> Keyed<O> {
             pending: false,
             alloc,
         }
+    }
+
+    /// What is kept, besides whether changes are pending: the operator, and the parts of both inputs.
+    pub fn kept(&self) -> (&O, &PartStore, &PartStore)
+        ensures op { result.0.now ≡ self.now.op }
+        ensures left { result.1.now ≡ self.now.left }
+        ensures right { result.2.now ≡ self.now.right }
+    {
+        // With each field by its name and type, a further one doesn't compile.
+        let Keyed {
+            op,
+            left,
+            right,
+            pending,
+            alloc,
+        } = self;
+        let _pending: &bool = pending;
+        let _alloc: &Global = alloc;
+        (op, left, right)
     }
 }
 
@@ -137,6 +156,7 @@ pub(crate) fn stage<O: PartOp, L: Ledger>(
     ensures range { IfErr result (λ e. e ≡ fault.Range → ChangesMisfit (settled_standing O.PartOp op.now left_store.old right_store.old) left.now right.now) }
     ensures left_committed { (k : Row) → committed_part left_store.new k ≡ committed_part left_store.old k }
     ensures right_committed { (k : Row) → committed_part right_store.new k ≡ committed_part right_store.old k }
+    ensures work { KeepsWork (settled_standing O.PartOp op.now left_store.old right_store.old) left.now right.now steps.old steps.new }
 {
     check_range(left);
     check_range(right);

@@ -2,14 +2,13 @@
 use Rattle.std.specs.Prelude.{◌≡◌, ℕ, ◌+◌, ◌≤◌, nat_le, false, true, List, [], ◌∷◌, ◌++◌, length, map, slice_get, slice_index_or, Some}
 use Rattle.std.proofs.Common.{refl, sym, ap, subst, ◌∙◌, take}
 use Rattle.std.proofs.lemmas.List.{map-append, take_all}
-use Rattle.dataflow.specs.Standing.{meanings}
 use Rattle.datasets.specs.Dataset.{empty}
 use Rattle.plan_model.proofs.Plans.{step_of_plan}
 use Rattle.plan_model.proofs.StepLaws.{inputs_are_earlier}
 use Rattle.plan_model.specs.Acceptance.{is_narrow}
 use Rattle.plan_model.specs.Evaluation.{operator_of}
 use Rattle.plan_model.specs.Fits.{operator_fits}
-use Rattle.plan_model.specs.Inputs.{of_inputs, of_left, of_right}
+use Rattle.plan_model.specs.Inputs.{of_left, of_right}
 use Rattle.plan_model.specs.Sizes.{max_width}
 use Rattle.plan_model.specs.Types.{columns, columns_step, output_columns}
 use Rattle.plan_model.specs.declared.source_types.SourceType.{SourceType}

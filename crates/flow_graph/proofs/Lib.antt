@@ -2,6 +2,7 @@ pub mod Lists
 pub mod Fronts
 pub mod PlanSteps
 pub mod PlanGraphs
+pub mod PlanWorks
 pub mod Turning
 pub mod NoRows
 pub mod Building
@@ -9,3 +10,4 @@ pub mod PlanNodes
 pub mod NodesLent
 pub mod NodesMade
 pub mod Filling
+pub mod Worked

@@ -1,10 +1,10 @@
 -- Plans whose sources have no rows.
-use Rattle.std.specs.Prelude.{◌≡◌, ℕ, zero, suc, ◌-◌, ◌&&◌, true, List, [], ◌∷◌, ◌++◌, length, map, slice_get, Option, Some, None}
+use Rattle.std.specs.Prelude.{◌≡◌, ℕ, zero, suc, ◌-◌, ◌&&◌, true, List, [], ◌∷◌, ◌++◌, length, map, Option, Some, None}
 use Rattle.std.proofs.Common.{inl, inr, refl, sym, ap, ap₂, subst, ◌∙◌, arith}
 use Rattle.std.proofs.lemmas.Option.{slice_get_cases}
 use Rattle.dataflow.proofs.Evaluated.{fits_at-past, get_or-map_at}
-use Rattle.dataflow.specs.Evaluation.{dataset_at, evals, evals_after, fits_at, last_output, meaning_at, no_operator, right_dataset, step_output, step_passes}
-use Rattle.dataflow.specs.Standing.{OfInputs, StepsStand, meanings}
+use Rattle.dataflow.specs.Evaluation.{dataset_at, evals, evals_after, fits_at, no_operator, right_dataset, step_output, step_passes}
+use Rattle.dataflow.specs.Standing.{OfInputs, meanings}
 use Rattle.dataflow.specs.Wiring.{wire_at}
 use Rattle.dataflow.specs.declared.wire.Wire.{Wire}
 use Rattle.dataflow.specs.declared.wire.Wire.TheVariants.{Source, Of}

@@ -1,20 +1,20 @@
 -- The nodes and wires of a plan.
-use Rattle.std.specs.Prelude.{◌≡◌, ℕ, ◌-◌, ◌<◌, ◌≤◌, Bool, true, is_some, not, List, [], ◌∷◌, length, slice_get, slice_index_or, take, Option, Some, None, zero, suc}
+use Rattle.std.specs.Prelude.{◌≡◌, ℕ, ◌-◌, ◌<◌, ◌≤◌, Bool, true, is_some, not, List, [], ◌∷◌, length, slice_get, slice_index_or, take, Some, None, zero, suc}
 use Rattle.std.specs.List.{AllByRecursion}
 use Rattle.std.specs.Option.{unwrap_or}
 use Rattle.std.proofs.Common.{inl, inr, refl, sym, ap, ap₂, subst, ◌∙◌, true≢false, arith, get_or}
 use Rattle.std.proofs.lemmas.Bool.{true_from_ne_false}
 use Rattle.std.proofs.lemmas.List.{length-map}
 use Rattle.std.proofs.lemmas.List.Folds.{list_any_at}
-use Rattle.std.proofs.lemmas.Option.{get_or_from_slice_get, same_Some, slice_get-get_or, slice_get_cases, slice_get_past, slice_get_within, unwrap_or-slice_get}
-use Rattle.dataflow.proofs.Evaluated.{evals-at, fits_at-past, get_or-map_at}
+use Rattle.std.proofs.lemmas.Option.{get_or_from_slice_get, same_Some, slice_get_cases, slice_get_past, unwrap_or-slice_get}
+use Rattle.dataflow.proofs.Evaluated.{fits_at-past, get_or-map_at}
 use Rattle.dataflow.specs.Changes.{AreFamilyChanges}
-use Rattle.dataflow.specs.Evaluation.{dataset_at, evals, fits_at, last_output, meaning_at, no_operator, step_output, step_passes, takes_at}
+use Rattle.dataflow.specs.Evaluation.{dataset_at, evals, fits_at, last_output, meaning_at, no_operator, step_passes, takes_at}
 use Rattle.dataflow.specs.Standing.{IsMisfit, MayChange}
 use Rattle.dataflow.specs.Wiring.{AreWired, RefersBefore, wire_at}
 use Rattle.dataflow.specs.declared.wire.Wire.{Wire}
-use Rattle.dataflow.specs.declared.wire.Wire.TheVariants.{Source, Of}
-use Rattle.datasets.specs.Dataset.{Dataset, empty}
+use Rattle.dataflow.specs.declared.wire.Wire.TheVariants.{Source}
+use Rattle.datasets.specs.Dataset.{empty}
 use Rattle.plan_model.proofs.Plans.{some_steps, step_of_plan}
 use Rattle.plan_model.proofs.Positions.{is_some-position, position_found, position_none}
 use Rattle.plan_model.proofs.StepLaws.{inputs_are_earlier}
@@ -24,7 +24,7 @@ use Rattle.plan_model.specs.Acceptance.{knows_source, matches_kinds, reads_colum
 use Rattle.plan_model.specs.Evaluation.{Family, eval, eval_step, evals as plan_evals, last_or}
 use Rattle.plan_model.specs.Fits.{misfit, step_fits as plan_step_fits}
 use Rattle.plan_model.specs.Inputs.{of_left, of_right}
-use Rattle.plan_model.specs.Types.{HasColumns, Keeps, columns, columns_at, columns_step}
+use Rattle.plan_model.specs.Types.{Keeps, columns, columns_step}
 use Rattle.plan_model.specs.declared.source_types.SourceType.{SourceType}
 use Rattle.plan_model.specs.declared.step.Step.{Step}
 use Rattle.record_text.specs.declared.kinds.Kind.{Kind}
@@ -86,10 +86,10 @@ module _ (plan : List Step) (types : List SourceType) (kept : IsKept plan types)
   pub length-meanings : length ms ≡ length plan
   length-meanings = length-map plan (step_meaning (columns plan types))
 
-  wire_at-step : (i : ℕ) (s : Step) → slice_get plan i ≡ Some s → wire_at ws i ≡ wire_of types s
+  pub wire_at-step : (i : ℕ) (s : Step) → slice_get plan i ≡ Some s → wire_at ws i ≡ wire_of types s
   wire_at-step i s at = get_or-map_at (wire_of types) plan i s (Source 0) at
 
-  meaning_at-step : (i : ℕ) (s : Step) → slice_get plan i ≡ Some s → meaning_at ms i ≡ step_meaning (columns plan types) s
+  pub meaning_at-step : (i : ℕ) (s : Step) → slice_get plan i ≡ Some s → meaning_at ms i ≡ step_meaning (columns plan types) s
   meaning_at-step i s at = get_or-map_at (step_meaning (columns plan types)) plan i s no_operator at
 
   pub are_wired : AreWired ws (length types)

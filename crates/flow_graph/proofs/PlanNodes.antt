@@ -1,5 +1,5 @@
 -- What a plan with its nodes and output stands for, from what they stand for with their wires.
-use Rattle.std.specs.Prelude.{◌≡◌, ℕ, ◌<◌, true, if◌then◌else◌, nat_eq, List, [], length, Some}
+use Rattle.std.specs.Prelude.{◌≡◌, ℕ, ◌+◌, ◌<◌, ◌≤◌, true, if◌then◌else◌, nat_eq, List, [], length, Some}
 use Rattle.std.proofs.Common.{sym, ap, subst, ◌∙◌, arith, get_or}
 use Rattle.std.proofs.lemmas.List.{length-map}
 use Rattle.dataflow.specs.Evaluation.{fits_at}
@@ -15,13 +15,16 @@ use Rattle.plan_model.specs.declared.step.Step.{Step}
 use Rattle.weighted_set.specs.Changes.{applied}
 use Rattle.weighted_set.specs.Held.{AllInRange}
 use Rattle.weighted_set.specs.Parts.{StoreParts}
-use Rattle.weighted_set.specs.Standing.{Meaning, Standing}
+use Rattle.weighted_set.specs.Standing.{IsWithin, Meaning, Standing}
 use Rattle.weighted_set.specs.declared.weighted.Change.{Change}
 use Rattle.flow_graph.proofs.PlanGraphs.{are_wired, length-meanings, length-wires}
 use Rattle.flow_graph.proofs.Turning.{MayChange-turning, MayStand-turned, misfit-turned}
 use Rattle.dataflow.specs.Wired.{WiresPend, WiresStand}
+use Rattle.dataflow.specs.Work.{wired_work}
+use Rattle.flow_graph.proofs.PlanWorks.{most_ticks-wired}
 use Rattle.flow_graph.specs.Plans.{PlanPends, PlanStands, TurnsInto}
 use Rattle.flow_graph.specs.Steps.{plan_meanings, plan_wires}
+use Rattle.flow_graph.specs.Work.{most_ticks}
 
 module _ {N : Type 0} (of : N → Standing) (plan : List Step) (types : List SourceType) (nodes : List N) (out : StoreParts) (F : Family) (s : PlanStands of plan types nodes out F) (wires : List Wire) (is : wires ≡ plan_wires plan types) where
   pub some_wires : 0 < length wires
@@ -38,6 +41,12 @@ module _ {N : Type 0} (of : N → Standing) (plan : List Step) (types : List Sou
 
   pub PlanStands-kept : (new : List N) (after : StoreParts) → meanings of new ≡ meanings of nodes → WiresStand of new after wires F → PlanStands of plan types new after F
   PlanStands-kept new after same held = record { kept = s.kept; same = same ∙ s.same; family = s.family; held = subst (λ ws. WiresStand of new after ws F) is held }
+
+  -- the ticks within the work of the nodes are within the plan's
+  pub ticks_wired : (G : Family) (a b : ℕ) → IsWithin a (wired_work (meanings of nodes) wires F G) b → b ≤ a + most_ticks plan types F G
+  ticks_wired G a b h =
+      most_ticks-wired plan types s.kept F G a b
+      (subst (λ ws. IsWithin a (wired_work (plan_meanings plan types) ws F G) b) is (subst (λ (ms : List Meaning). IsWithin a (wired_work ms wires F G) b) s.same h))
 
   module _ (source : ℕ) (changes : List Change) (G : Family) (turns : TurnsInto types source changes F G) where
     pub may_change_wired : (lists : List (List Change)) → ((i : ℕ) → i < length lists → get_or lists i [] ≡ (if nat_eq i source then changes else [])) → MayChange (meanings of nodes) wires lists F G

@@ -1,6 +1,6 @@
 -- What the operators and wires of a plan's steps make of its sources is what the plan makes of them.
-use Rattle.std.specs.Prelude.{◌≡◌, ℕ, ◌<◌, Bool, ◌&&◌, true, false, is_some, List, [], ◌∷◌, ◌++◌, length, map, Option, Some, None, option_map}
-use Rattle.std.specs.List.{AllByRecursion, list_all, position}
+use Rattle.std.specs.Prelude.{◌≡◌, ℕ, ◌<◌, Bool, true, is_some, List, [], ◌∷◌, ◌++◌, length, map, Option, Some, None, option_map}
+use Rattle.std.specs.List.{AllByRecursion, position}
 use Rattle.std.specs.Option.{unwrap_or}
 use Rattle.std.proofs.Common.{refl, sym, ap, subst, ◌∙◌, true≢false}
 use Rattle.std.proofs.lemmas.Bool.{and_from}
@@ -16,7 +16,7 @@ use Rattle.plan_model.proofs.Accepted.{Passes-fault_after}
 use Rattle.plan_model.proofs.StepLaws.{inputs_are_earlier}
 use Rattle.plan_model.specs.Acceptance.{fault_after, knows_source, matches_kinds}
 use Rattle.plan_model.specs.Evaluation.{Family, eval_step, step_by_step_after}
-use Rattle.plan_model.specs.Fits.{operator_fits, step_fits as plan_step_fits}
+use Rattle.plan_model.specs.Fits.{step_fits as plan_step_fits}
 use Rattle.plan_model.specs.Inputs.{of_left, of_right}
 use Rattle.plan_model.specs.Limits.{is_step}
 use Rattle.plan_model.specs.Sources.{has_name, place_of}
@@ -27,7 +27,7 @@ use Rattle.record_text.proofs.Equality.{kinds_decided}
 use Rattle.record_text.specs.Names.{name_eq}
 use Rattle.record_text.specs.declared.kinds.Kind.{Kind}
 use Rattle.weighted_set.specs.Held.{AllInRange}
-use Rattle.flow_graph.specs.Steps.{step_meaning, takes_inputs, wire_of}
+use Rattle.flow_graph.specs.Steps.{step_meaning, wire_of}
 
 -- ---- the places of sources
 some_of : {X : Type 0} (o : Option X) → is_some o ≡ true → (x : X) × (o ≡ Some x)

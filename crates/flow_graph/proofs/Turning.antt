@@ -1,15 +1,14 @@
 -- Graphs of plans whose sources change.
-use Rattle.std.specs.Prelude.{◌≡◌, ℕ, zero, suc, ◌<◌, ◌≤◌, true, if◌then◌else◌, nat_eq, List, [], ◌∷◌, length, Some}
-use Rattle.std.proofs.Common.{inl, inr, refl, sym, ap, subst, ◌∙◌, arith, get_or}
+use Rattle.std.specs.Prelude.{◌≡◌, ℕ, ◌<◌, true, if◌then◌else◌, nat_eq, List, [], length, Some}
+use Rattle.std.proofs.Common.{inl, inr, sym, ap, subst, ◌∙◌, get_or}
 use Rattle.std.proofs.lemmas.Bool.Decides.{eqb_tells}
 use Rattle.dataflow.proofs.Next.{no_changes}
 use Rattle.dataflow.specs.Changes.{AreFamilyChanges}
 use Rattle.dataflow.specs.Evaluation.{dataset_at, fits_at}
 use Rattle.dataflow.specs.Standing.{IsMisfit, MayChange}
-use Rattle.datasets.specs.Dataset.{Dataset, empty}
+use Rattle.datasets.specs.Dataset.{Dataset}
 use Rattle.plan_model.specs.Evaluation.{Family}
 use Rattle.plan_model.specs.Fits.{misfit}
-use Rattle.plan_model.specs.Types.{Keeps}
 use Rattle.plan_model.specs.declared.source_types.SourceType.{SourceType}
 use Rattle.plan_model.specs.declared.step.Step.{Step}
 use Rattle.weighted_set.proofs.ChangeLists.{change_list_leads_there}

@@ -1,5 +1,5 @@
 -- What a graph that keeps a plan up to date stands for.
-use Rattle.std.specs.Prelude.{◌≡◌, ℕ, true, false, List, Some}
+use Rattle.std.specs.Prelude.{◌≡◌, ℕ, ◌+◌, ◌≤◌, true, false, List, Some}
 use Rattle.flow_graph.specs.Nodes.{node_standing}
 use Rattle.plan_model.specs.Evaluation.{Family}
 use Rattle.dataflow.specs.Wired.{AreAtRest}
@@ -8,6 +8,7 @@ use Rattle.plan_model.specs.declared.source_types.SourceType.{SourceType}
 use Rattle.plan_model.specs.declared.step.Step.{Step}
 use Rattle.weighted_set.specs.declared.weighted.Change.{Change}
 use Rattle.flow_graph.specs.Plans.{PlanPends, PlanStands, TurnsInto}
+use Rattle.flow_graph.specs.Work.{most_ticks}
 use Rattle.flow_graph.specs.declared.flow.FlowGraph.{FlowGraph}
 
 -- what the graph holds is what the family gives
@@ -31,6 +32,11 @@ GraphTurns old new source changes = (F G : Family) → StandsFor old F → Turns
 -- whatever the changes make of the family, the step i is the first that doesn't fit
 abbrev pub GraphMisfits : FlowGraph → ℕ → List Change → ℕ → Type 0
 GraphMisfits graph source changes i = (F G : Family) → StandsFor graph F → TurnsInto graph.types source changes F G → misfit graph.plan graph.types G ≡ Some i
+
+-- whatever the changes make of the family, the ticks are no more than the plan's work allows
+abbrev pub GraphKeepsWork : FlowGraph → ℕ → List Change → ℕ → ℕ → Type 0
+GraphKeepsWork graph source changes old new =
+    (F G : Family) → StandsFor graph F → TurnsInto graph.types source changes F G → new ≤ old + most_ticks graph.plan graph.types F G
 
 -- what the graph stood for it stands for
 abbrev pub GraphKeeps : FlowGraph → FlowGraph → Type 0

@@ -2,6 +2,8 @@ pub mod Sources
 pub mod NodesBy
 pub mod Nodes
 pub mod Steps
+pub mod Work
+pub mod Laws
 pub mod Plans
 pub mod Graphs
 pub mod Fresh

@@ -1,5 +1,5 @@
 -- What the nodes and the output of a plan stand for.
-use Rattle.std.specs.Prelude.{◌≡◌, ◌≢◌, ℕ, ◌<◌, IsTrue, List, length, None, Some}
+use Rattle.std.specs.Prelude.{◌≡◌, ◌≢◌, ℕ, ◌+◌, ◌<◌, ◌≤◌, IsTrue, List, length, None, Some}
 use Rattle.dataflow.specs.Evaluation.{dataset_at}
 use Rattle.dataflow.specs.Standing.{meanings}
 use Rattle.dataflow.specs.Wired.{WiresPend, WiresStand}
@@ -16,6 +16,7 @@ use Rattle.weighted_set.specs.Parts.{StoreParts}
 use Rattle.weighted_set.specs.Standing.{Standing}
 use Rattle.weighted_set.specs.declared.weighted.Change.{Change}
 use Rattle.flow_graph.specs.Steps.{plan_meanings, plan_wires}
+use Rattle.flow_graph.specs.Work.{most_ticks}
 
 -- a plan that is accepted for these sources
 pub record IsKept (plan : List Step) (types : List SourceType) : Type 0 where
@@ -63,6 +64,11 @@ PlanTurns of plan types old out new after source changes =
 abbrev pub PlanMisfits : {N : Type 0} → (N → Standing) → List Step → List SourceType → List N → StoreParts → ℕ → List Change → ℕ → Type 0
 PlanMisfits of plan types nodes out source changes i =
     (F G : Family) → PlanStands of plan types nodes out F → TurnsInto types source changes F G → misfit plan types G ≡ Some i
+
+-- whatever the changes make of the family, the ticks are no more than the plan's work allows
+abbrev pub PlanKeepsWork : {N : Type 0} → (N → Standing) → List Step → List SourceType → List N → StoreParts → ℕ → List Change → ℕ → ℕ → Type 0
+PlanKeepsWork of plan types nodes out source changes old new =
+    (F G : Family) → PlanStands of plan types nodes out F → TurnsInto types source changes F G → new ≤ old + most_ticks plan types F G
 
 -- what the plan stood for it stands for
 abbrev pub PlanKeeps : {N : Type 0} → (N → Standing) → List Step → List SourceType → List N → StoreParts → List N → StoreParts → Type 0

@@ -1,8 +1,6 @@
 -- What the node of a source means: it takes nothing, so it is never prepared.
-use Rattle.std.specs.Prelude.{◌≡◌, Bool, true, false, None}
-use Rattle.datasets.specs.Dataset.{Dataset}
+use Rattle.std.specs.Prelude.{false, None}
 use Rattle.operators.specs.InRange.{weights_in_range}
-use Rattle.weighted_set.specs.Held.{AllInRange}
 use Rattle.weighted_set.specs.Standing.{KeepsRange, Meaning, Standing}
 
 -- a source's rows stay as they are

@@ -7,6 +7,7 @@
 mod build;
 mod flow;
 mod fresh;
+mod laws;
 mod node;
 mod plans;
 mod rows;
@@ -15,5 +16,6 @@ mod wires;
 pub use dataflow::GraphFault;
 pub use engines::{Keyed, Whole};
 pub use flow::FlowGraph;
+pub use laws::law_work;
 pub use node::{Node, NodeOf};
 pub use std::alloc::AllocError as Memory;

@@ -5,7 +5,7 @@ ghost use Rattle.dataflow.specs.declared.passes.GraphFault.TheVariants as fault;
 ghost use Rattle.plan_model.specs.Fits.{misfit};
 ghost use Rattle.plan_model.specs.Types.{Keeps};
 ghost use Rattle.flow_graph.specs.Fresh.{committed_family, no_rows};
-ghost use Rattle.flow_graph.specs.Plans.{PlanHasInputs, PlanKeeps, PlanMisfits, PlanStands, PlanTurns};
+ghost use Rattle.flow_graph.specs.Plans.{PlanHasInputs, PlanKeeps, PlanKeepsWork, PlanMisfits, PlanStands, PlanTurns};
 
 use crate::rows::{all_rows, changes_at, lent_lists};
 use crate::wires::wires_of;
@@ -18,7 +18,7 @@ use steps::Steps;
 use weighted_set::{Change, Operator, PartStore, SourceSet};
 
 /// Makes the changes of a source pending. `Range` names the first step that doesn't fit. After a refusal nothing is
-/// pending.
+/// pending. It takes at most eight ticks for each unit of the plan's work, and eight more.
 pub fn prepare_plan<N: Operator, L: Ledger>(
     alloc: Global,
     plan: &Plan,
@@ -33,6 +33,7 @@ pub fn prepare_plan<N: Operator, L: Ledger>(
     requires inputs { PlanHasInputs N.standing plan.now types.now nodes.old out.old source changes.now }
     ensures pending { OnOk result (PlanTurns N.standing plan.now types.now nodes.old out.old nodes.new out.new source changes.now) }
     ensures range { IfErr result (λ e. (i : ℕ) → e ≡ fault.Range i → PlanMisfits N.standing plan.now types.now nodes.old out.old source changes.now i) }
+    ensures work { PlanKeepsWork N.standing plan.now types.now nodes.old out.old source changes.now steps.old steps.new }
     ensures err { OnErr result (AreAtRest N.standing nodes.new out.new) }
     ensures committed { PlanKeeps N.standing plan.now types.now nodes.old out.old nodes.new out.new }
 {

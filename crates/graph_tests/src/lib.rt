@@ -5,3 +5,5 @@
 mod graphs;
 #[cfg(test)]
 mod paths;
+#[cfg(test)]
+mod stores;

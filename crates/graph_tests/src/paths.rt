@@ -17,8 +17,8 @@ use std::test::Fail;
 use steps::Steps;
 use trial_rows::{ratio, row_of};
 
-// The paths of two edges whose ends differ.
-const PATHS: &str =
+/// The paths of two edges whose ends differ.
+pub const PATHS: &str =
     "{\"format\":1,\"steps\":[{\"do\":\"source\",\"name\":\"first\"},{\"do\":\"join\",\"left\":0,\"right\":0,\"left_key\":[{\"col\":1}],\"right_key\":[{\"col\":0}]},{\"do\":\"where\",\"of\":1,\"if\":{\"call\":\"ne\",\"args\":[{\"col\":0},{\"col\":3}]}}]}";
 
 // Some paths: of two steps in the ring, of a step and a chord, of two chords, and of a step back.
@@ -46,8 +46,8 @@ fn is_as_fresh<L: Ledger>(
     Ok(true)
 }
 
-// Adds a weight to an edge of the graph.
-fn put_edge<L: Ledger>(
+/// Adds a weight to an edge of the graph.
+pub fn put_edge<L: Ledger>(
     rt: &impl Abort,
     alloc: Global,
     trial: &mut Trial,

@@ -1,5 +1,5 @@
 -- What an operator means, what it holds, and which changes of its inputs it can be asked for.
-use Rattle.std.specs.Prelude.{◌≡◌, ℕ, Bool, false, true, List, Option}
+use Rattle.std.specs.Prelude.{◌≡◌, ℕ, ◌+◌, ◌*◌, ◌≤◌, Bool, false, true, List, Option, Some, None}
 use Rattle.datasets.specs.Dataset.{Dataset}
 use Rattle.weighted_set.specs.Changes.{IsChangeList}
 use Rattle.weighted_set.specs.Held.{AllInRange}
@@ -67,3 +67,13 @@ KeepsStanding old new = (A B : Dataset) → old.StandsFor A B → new.StandsFor 
 -- what was pending is kept
 abbrev pub CommitsStanding : Standing → Standing → Type 0
 CommitsStanding old new = (A B : Dataset) → old.StandsPending A B → new.StandsFor A B
+
+-- ticks: at most eight for each unit of work, where it is bounded
+abbrev pub IsWithin : ℕ → Option ℕ → ℕ → Type 0
+IsWithin old None new = Unit {0}
+IsWithin old (Some n) new = new ≤ old + 8 * n
+
+-- whatever inputs these changes make of those before, the ticks are within the work
+abbrev pub KeepsWork : Standing → List Change → List Change → ℕ → ℕ → Type 0
+KeepsWork of left right old new =
+    (A B C D : Dataset) → MayBecome of left right A B C D → IsWithin old (of.meaning.work A B C D) new

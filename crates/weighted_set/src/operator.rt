@@ -1,6 +1,6 @@
 //! Operators that are kept up to date.
 ghost use Rattle.std.specs.Prelude.{◌≡◌, [], IfErr, OnErr, OnOk, false};
-ghost use Rattle.weighted_set.specs.Standing.{AnswersChanges, ChangesMisfit, CommitsStanding, HasInputs, KeepsRange, KeepsStanding, Standing};
+ghost use Rattle.weighted_set.specs.Standing.{AnswersChanges, ChangesMisfit, CommitsStanding, HasInputs, KeepsRange, KeepsStanding, KeepsWork, Standing};
 ghost use Rattle.weighted_set.specs.declared.part_op.OpFault.TheVariants as fault;
 
 use crate::part_op::OpFault;
@@ -14,7 +14,7 @@ pub trait Operator {
     ghost standing: { Self → Standing };
 
     /// Makes the changes of both inputs pending, and lists the changes of the output in row order. `out` is
-    /// emptied first. After a refusal nothing is pending.
+    /// emptied first. After a refusal nothing is pending. It takes at most eight ticks for each unit of work.
     fn prepare<L: Ledger>(
         &mut self,
         left: &[Change],
@@ -28,7 +28,8 @@ pub trait Operator {
         ensures range { IfErr result (λ e. e ≡ fault.Range → ChangesMisfit (standing self.old) left.now right.now) }
         ensures err { OnErr result (((standing self.new).is_pending ≡ false) × (out.new.items ≡ [])) }
         ensures committed { KeepsStanding (standing self.old) (standing self.new) }
-        ensures same { (standing self.new).meaning ≡ (standing self.old).meaning };
+        ensures same { (standing self.new).meaning ≡ (standing self.old).meaning }
+        ensures work { KeepsWork (standing self.old) left.now right.now steps.old steps.new };
 
     /// Makes the pending inputs the committed ones.
     fn commit(&mut self)

@@ -11,6 +11,7 @@ use Rattle.dataflow.proofs.Evaluated.{fits_at-past}
 use Rattle.dataflow.proofs.Faults.{named}
 use Rattle.dataflow.proofs.Next.{AreNext, AreNext-more, fits_here, may-next}
 use Rattle.dataflow.proofs.Pairs.{IsKept, Passed-more, Passed-next, all_kept}
+use Rattle.dataflow.proofs.Works.{work-next, works-later}
 use Rattle.dataflow.proofs.passes.prepare_each.Goals as goal
 
 pub prepare_step-requires-clause-inputs : goal.prepare_step-requires-clause-inputs
@@ -142,6 +143,9 @@ loop-i-preserved g c =
           subst (λ (ls : List (List Change)). AreNext of old wires sources (slice_set new i m) ls F G (i + 1)) (sym all)
           (AreNext-more of old wires sources c.requires.same_length wired i n here F G s t law new lists list m count within
           (c.in-Ok.ensures.ok (evals (meanings of old) wires F) (evals (meanings of old) wires G) (may F G s t)) (next F G s t));
+      work = λ F G s t.
+          work-next of old wires sources c.requires.same_length wired i n here F G s t new c.as_slice.result.now c.loop-i.lists.items c.as_slice.ensures.value (c.loop-i.invariant.next F G s t)
+          c.args.steps.now c.loop-i.steps c.prepare_step.new.steps (c.loop-i.invariant.work F G s t) c.prepare_step.ensures.work;
     }
 
 pub returns-clause-ok : goal.returns-clause-ok
@@ -166,3 +170,39 @@ returns-clause-committed g c = (all_kept g.N.Operator.standing c.args.nodes.now 
 
 pub returns-clause-same : goal.returns-clause-same
 returns-clause-same g c = (all_kept g.N.Operator.standing c.args.nodes.now c.loop-i.nodes c.loop-i.i c.loop-i.invariant.passed).1
+
+pub returns-in_err-push_list-in-Ok-clause-work : goal.returns-in_err-push_list-in-Ok-clause-work
+returns-in_err-push_list-in-Ok-clause-work g c F G s t =
+    let of = g.N.Operator.standing in
+    let old = c.args.nodes.now in
+    let new = c.loop-i.nodes in
+    let wires = c.args.wires.now in
+    let sources : List (List Change) = map (λ s. s.now) c.args.sources.now in
+    let wired : AreWired wires (length sources) = subst (AreWired wires) (sym (length-map c.args.sources.now (λ s. s.now))) c.requires.wired in
+    let i = c.loop-i.i in
+    let n = get_or new i c.index-nodes-i.result in
+    let within : i < length new = omega arith in
+    let here = Passed-next old new i c.index-nodes-i.result c.loop-i.invariant.passed within in
+    works-later (meanings of old) wires F G c.args.steps.now c.prepare_step.new.steps (length wires) (i + 1) (omega arith)
+    (work-next of old wires sources c.requires.same_length wired i n here F G s t new c.as_slice.result.now c.loop-i.lists.items c.as_slice.ensures.value (c.loop-i.invariant.next F G s t)
+    c.args.steps.now c.loop-i.steps c.prepare_step.new.steps (c.loop-i.invariant.work F G s t) c.prepare_step.ensures.work)
+
+pub returns-in-Err-clause-work : goal.returns-in-Err-clause-work
+returns-in-Err-clause-work g c F G s t =
+    let of = g.N.Operator.standing in
+    let old = c.args.nodes.now in
+    let new = c.loop-i.nodes in
+    let wires = c.args.wires.now in
+    let sources : List (List Change) = map (λ s. s.now) c.args.sources.now in
+    let wired : AreWired wires (length sources) = subst (AreWired wires) (sym (length-map c.args.sources.now (λ s. s.now))) c.requires.wired in
+    let i = c.loop-i.i in
+    let n = get_or new i c.index-nodes-i.result in
+    let within : i < length new = omega arith in
+    let here = Passed-next old new i c.index-nodes-i.result c.loop-i.invariant.passed within in
+    works-later (meanings of old) wires F G c.args.steps.now c.prepare_step.new.steps (length wires) (i + 1) (omega arith)
+    (work-next of old wires sources c.requires.same_length wired i n here F G s t new c.as_slice.result.now c.loop-i.lists.items c.as_slice.ensures.value (c.loop-i.invariant.next F G s t)
+    c.args.steps.now c.loop-i.steps c.prepare_step.new.steps (c.loop-i.invariant.work F G s t) c.prepare_step.ensures.work)
+
+pub returns-clause-work : goal.returns-clause-work
+returns-clause-work g c F G s t =
+    works-later (meanings g.N.Operator.standing c.args.nodes.now) c.args.wires.now F G c.args.steps.now c.loop-i.steps (length c.args.wires.now) c.loop-i.i (omega arith) (c.loop-i.invariant.work F G s t)

@@ -1,7 +1,8 @@
 use Rattle.std.proofs.lemmas.Result.{err_from_is_err_and}
 use Rattle.weighted_set.specs.declared.part_op.Side.TheVariants.{Left, Right}
 use Rattle.engines.specs.Engines.{meaning_of}
-use Rattle.engines.proofs.Engine.{Laws, engine_step, fit_before, fits_after, held_after, misfits_after, misfits_put, rows_of_changes, taken_after, taken_before}
+use Rattle.engines.proofs.Engine.{Laws, engine_step, fit_before, fits_after, held_after, misfits_after, misfits_put, rows_of_changes, taken_after, taken_before, ticks_after}
+use Rattle.engines.proofs.WithinWork.{puts-within_work}
 use Rattle.engines.proofs.keyed.stage.Given.{Over}
 use Rattle.engines.proofs.keyed.stage.Goals as goal
 
@@ -54,3 +55,21 @@ returns-clause-ok g c A B C D m =
           fits_after (laws g c.args.op.now) c.in_ok-touched.ensures.put A B C D m (c.check_range.ensures A m.left_in_range) (c.check_range-2.ensures B m.right_in_range) c.as_slice.result.now c.as_slice.ensures.value c.in_ok-table.ensures.fits;
       pending = held_after (laws g c.args.op.now) c.in_ok-touched.ensures.put A B C D m;
     }
+
+-- ---- ticks, however far it comes
+pub returns-in_err-touched-clause-work : goal.returns-in_err-touched-clause-work
+returns-in_err-touched-clause-work g c A B C D m =
+    let keys = g.O.PartOp.keys c.args.op.now in
+    puts-within_work (keys Left) (keys Right) c.args.left.now c.args.right.now A B C D m.left_changes m.right_changes _ _ c.put_inputs.ensures.ticks
+
+pub returns-in_err-table-clause-work : goal.returns-in_err-table-clause-work
+returns-in_err-table-clause-work g c A B C D m =
+    ticks_after (laws g c.args.op.now) c.in_ok-touched.ensures.put A B C D m c.as_slice.result.now c.as_slice.ensures.value _ _ _ c.put_inputs.ensures.ticks c.stage_keys.ensures.ticks
+
+pub returns-in_err-changes-clause-work : goal.returns-in_err-changes-clause-work
+returns-in_err-changes-clause-work g c A B C D m =
+    ticks_after (laws g c.args.op.now) c.in_ok-touched.ensures.put A B C D m c.as_slice.result.now c.as_slice.ensures.value _ _ _ c.put_inputs.ensures.ticks c.stage_keys.ensures.ticks
+
+pub returns-clause-work : goal.returns-clause-work
+returns-clause-work g c A B C D m =
+    ticks_after (laws g c.args.op.now) c.in_ok-touched.ensures.put A B C D m c.as_slice.result.now c.as_slice.ensures.value _ _ _ c.put_inputs.ensures.ticks c.stage_keys.ensures.ticks

@@ -1,5 +1,5 @@
 -- The rows of the sources are the changes that make them of no rows.
-use Rattle.std.proofs.Common.{◌≡◌, List, length, map, ap, sym, ◌∙◌}
+use Rattle.std.proofs.Common.{List, length, map, ap, sym, ◌∙◌}
 use Rattle.std.proofs.lemmas.List.{length-map}
 use Rattle.weighted_set.specs.Standing.{Meaning}
 use Rattle.weighted_set.specs.declared.weighted.Change.{Change}

@@ -23,3 +23,13 @@ pub returns-in-Err-clause-committed : goal.returns-in-Err-clause-committed
 returns-in-Err-clause-committed g c A B s =
     let unchanged = c.in-Err.ensures in
     c.abort.ensures.committed A B (record { of_left = λ k. unchanged.left_committed k ∙ s.0.of_left k; of_right = λ k. unchanged.right_committed k ∙ s.0.of_right k }, λ e. absurd (true≢false e))
+
+pub returns-in-Ok-clause-work : goal.returns-in-Ok-clause-work
+returns-in-Ok-clause-work g c A B C D m =
+    let it = c.args.self.now in
+    c.stage.ensures.work A B C D (settled_first g.O.PartOp it.op it.left it.right it.pending c.requires.idle m)
+
+pub returns-in-Err-clause-work : goal.returns-in-Err-clause-work
+returns-in-Err-clause-work g c A B C D m =
+    let it = c.args.self.now in
+    c.stage.ensures.work A B C D (settled_first g.O.PartOp it.op it.left it.right it.pending c.requires.idle m)

@@ -1,8 +1,8 @@
-use Rattle.std.proofs.Common.{◌≡◌, refl, sym, subst, ◌∙◌, true≢false}
+use Rattle.std.proofs.Common.{◌≡◌, sym, subst, ◌∙◌}
 use Rattle.flow_graph.specs.Nodes.{node_standing}
 use Rattle.flow_graph.proofs.NodesLent.{given_back}
 use Rattle.dataflow.specs.Wired.{AreAtRest, WiresPend, WiresStand}
-use Rattle.flow_graph.specs.Plans.{PlanPends, PlanStands}
+use Rattle.flow_graph.specs.Plans.{PlanStands}
 use Rattle.flow_graph.specs.Steps.{plan_meanings, plan_wires}
 use Rattle.dataflow.specs.Standing.{meanings}
 use Rattle.flow_graph.proofs.flow.FlowGraph.commit.Goals as goal

@@ -1,4 +1,4 @@
-use Rattle.std.proofs.Common.{◌≡◌, refl, sym, subst, ◌∙◌, true≢false}
+use Rattle.std.proofs.Common.{refl, sym, subst, ◌∙◌, true≢false}
 use Rattle.flow_graph.specs.Nodes.{node_standing}
 use Rattle.flow_graph.proofs.NodesLent.{given_back}
 use Rattle.dataflow.specs.Wired.{AreAtRest}
@@ -66,3 +66,15 @@ returns-in-Err-clause-committed g c F s =
       plan = given_back node_standing graph.nodes lent new is (stands.same ∙ sym held.same) (λ ns. PlanStands node_standing graph.plan graph.types ns after F) stands;
       at_rest = λ _. given_back node_standing graph.nodes lent new is (stands.same ∙ sym held.same) (λ ns. AreAtRest node_standing ns after) c.in-Err.ensures.err;
     }
+
+pub returns-in-Ok-clause-work : goal.returns-in-Ok-clause-work
+returns-in-Ok-clause-work g c F G s t =
+    let graph = c.args.self.now in
+    let is = c.as_mut_slice-nodes.ensures.value in
+    c.prepare_plan.ensures.work F G (subst (λ ns. PlanStands node_standing graph.plan graph.types ns graph.out F) (sym is) s.plan) t
+
+pub returns-in-Err-clause-work : goal.returns-in-Err-clause-work
+returns-in-Err-clause-work g c F G s t =
+    let graph = c.args.self.now in
+    let is = c.as_mut_slice-nodes.ensures.value in
+    c.prepare_plan.ensures.work F G (subst (λ ns. PlanStands node_standing graph.plan graph.types ns graph.out F) (sym is) s.plan) t

@@ -42,3 +42,24 @@ returns-in-Join-clause-ok g c = rw c.in-Join.is c.prepare-in-Join.ensures.ok
 
 pub returns-in-Group-clause-ok : goal.returns-in-Group-clause-ok
 returns-in-Group-clause-ok g c = rw c.in-Group.is c.prepare-in-Group.ensures.ok
+
+pub returns-in-Filter-clause-work : goal.returns-in-Filter-clause-work
+returns-in-Filter-clause-work g c = rw c.in-Filter.is c.prepare.ensures.work
+
+pub returns-in-Select-clause-work : goal.returns-in-Select-clause-work
+returns-in-Select-clause-work g c = rw c.in-Select.is c.prepare-in-Select.ensures.work
+
+pub returns-in-Many-clause-work : goal.returns-in-Many-clause-work
+returns-in-Many-clause-work g c = rw c.in-Many.is c.prepare-in-Many.ensures.work
+
+pub returns-in-Shave-clause-work : goal.returns-in-Shave-clause-work
+returns-in-Shave-clause-work g c = rw c.in-Shave.is c.prepare-in-Shave.ensures.work
+
+pub returns-in-Set-clause-work : goal.returns-in-Set-clause-work
+returns-in-Set-clause-work g c = rw c.in-Set.is c.prepare-in-Set.ensures.work
+
+pub returns-in-Join-clause-work : goal.returns-in-Join-clause-work
+returns-in-Join-clause-work g c = rw c.in-Join.is c.prepare-in-Join.ensures.work
+
+pub returns-in-Group-clause-work : goal.returns-in-Group-clause-work
+returns-in-Group-clause-work g c = rw c.in-Group.is c.prepare-in-Group.ensures.work
