@@ -12,4 +12,3 @@ pub mod Fetches
 pub mod Loads
 pub mod Machine
 pub mod Laws
-pub mod Work

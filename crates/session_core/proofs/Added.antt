@@ -1,5 +1,5 @@
 -- Weights that are added, case by case.
-use Rattle.std.proofs.Common.{◌≡◌, ℕ, List, refl, ap, ap₂, subst, sym, ◌∙◌, None, Some, Option, length, set, true, false, inl, inr}
+use Rattle.std.proofs.Common.{◌≡◌, ◌≤◌, ◌+◌, ℕ, List, refl, ap, ap₂, subst, sym, ◌∙◌, None, Some, Option, length, set, true, false, inl, inr}
 use Rattle.std.specs.Prelude.{All, cond, slice_get}
 use Rattle.record_text.specs.KindLists.{kinds_of}
 use Rattle.datasets.specs.Dataset.{first_negative, first_weight_out_of_range}
@@ -8,10 +8,14 @@ use Rattle.weighted_set.specs.Changes.{entries_of}
 use Rattle.weighted_set.specs.declared.weighted.Change.{Change}
 use Rattle.weighted_set.specs.declared.weighted.Weighted.{Weighted}
 use Rattle.messages.specs.declared.refusal.Refusal.TheVariants as refusal
+use Rattle.messages.specs.declared.reply.Reply.{Reply}
 use Rattle.messages.specs.declared.reply.Reply.TheVariants as reply
 use Rattle.session_data.specs.Held.{HeldSources}
 use Rattle.request_machine.specs.Updates.{added_at, below_zero, first_misfit, updated_at, with_source, with_weights}
 use Rattle.session_core.specs.Parts.{ArePending, AreSettled, state_of}
+use Rattle.session_core.specs.Work.{outcome_steps, without_plans}
+use Rattle.session_data.specs.Planned.{plan_states}
+use Rattle.session_data.specs.Work.{follow_steps}
 use Rattle.request_machine.specs.State.{SourceState, State, family_of, types_of}
 use Rattle.session_core.specs.declared.parts.Parts.{Parts}
 use Rattle.session_data.proofs.Turned.{IsTurn-added, TurnsInto-added}
@@ -77,3 +81,16 @@ unfolding added_at
 added_allowed state at source added within allowed =
     let new = with_source state at (with_weights source added) in
     sym (ap₂ (λ (o b : Option ℕ). updated_at o b (first_misfit (types_of new.sources) (family_of new.sources) state.plans) state new (length added)) within (none_below_zero source added allowed))
+
+-- the steps in which the plans follow them
+pub steps_added : (old : Parts) (s : HeldSources) (at : ℕ) (source : SourceState) (added : List Weighted) (before after : ℕ)
+    → StaysInRange source.rows added → EndsAllowed source.rows added source.signed
+    → s.committed ≡ old.sources.committed → s.pending ≡ set old.sources.committed at (with_weights source added)
+    → after ≤ before + follow_steps (plan_states old.plans.items) (types_of s.committed) (family_of s.committed) (family_of s.pending)
+    → after ≤ before + outcome_steps (state_of old) (added_at (without_plans (state_of old)) at source added)
+steps_added old s at source added before after within allowed committed pending h =
+    let sources = old.sources.committed in
+    let plans = plan_states old.plans.items in
+    subst (λ (outcome : State × Reply). after ≤ before + outcome_steps (state_of old) outcome) (added_allowed (without_plans (state_of old)) at source added within allowed)
+    (subst (λ (new : List SourceState). after ≤ before + follow_steps plans (types_of sources) (family_of sources) (family_of new)) pending
+    (subst (λ (now : List SourceState). after ≤ before + follow_steps plans (types_of now) (family_of now) (family_of s.pending)) committed h))

@@ -14,3 +14,4 @@ pub mod Added
 pub mod Charged
 pub mod Dropped
 pub mod NewPlans
+pub mod ShownWork

@@ -2,3 +2,5 @@ pub mod Parts
 pub mod Outcomes
 pub mod Draws
 pub mod Fetching
+pub mod Work
+pub mod Laws

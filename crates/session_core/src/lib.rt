@@ -5,6 +5,7 @@
 mod declare;
 mod effects;
 mod exact;
+mod laws;
 mod load;
 mod measure;
 mod outcome;
@@ -12,6 +13,7 @@ mod parts;
 mod session;
 mod update;
 
+pub use laws::law_work;
 pub use request_machine::{law_file, law_noise, law_replies};
 pub use request_text::{MAX_LINE, Memory};
 pub use session::Session;

@@ -1,11 +1,12 @@
 //! Weights that are added to a source from a file.
-ghost use Rattle.std.specs.Prelude.{◌≡◌, Ok};
+ghost use Rattle.std.specs.Prelude.{◌≡◌, ◌+◌, ◌≤◌, Ok};
 ghost use Rattle.io_edge.specs.Path.{IsPath};
 ghost use Rattle.messages.specs.declared.request.Request.TheVariants as request;
 ghost use Rattle.request_machine.specs.Loads.{loaded};
 ghost use Rattle.session_core.specs.Fetching.{FetchesAnd};
 ghost use Rattle.session_core.specs.Outcomes.{Does};
 ghost use Rattle.session_core.specs.Parts.{AreSettled, state_of};
+ghost use Rattle.session_core.specs.Work.{outcome_steps, without_plans};
 
 use crate::outcome::Outcome;
 use crate::parts::Parts;
@@ -33,7 +34,9 @@ impl Parts {
         requires path { IsPath path.now }
         ensures loaded { FetchesAnd (F.files shelf.old) (F.faults shelf.old) (F.faults shelf.new)
             (Ok (request.Load name path.now header))
-            (λ fetched. Does result self.old self.new (loaded (state_of self.old) name header fetched)) }
+            (λ fetched. Does result self.old self.new (loaded (state_of self.old) name header fetched)
+            × (steps.new ≤ steps.old + outcome_steps (state_of self.old)
+            (loaded (without_plans (state_of self.old)) name header fetched))) }
         ensures files { F.files shelf.new ≡ F.files shelf.old }
     {
         let Some(at) = self.sources.place_of(name) else {

@@ -1,15 +1,15 @@
 //! What a session keeps, and its answer to a line.
-ghost use Rattle.std.specs.Prelude.{◌≡◌, ◌+◌, ◌≤◌, ℕ, [], false, IfOk, Ok, OnErr, OnOk, Some};
+ghost use Rattle.std.specs.Prelude.{◌≡◌, ◌≤◌, [], false, IfOk, Ok, OnErr, OnOk};
 ghost use Rattle.request_text.specs.Requests.{IsWithinLimits, request_on};
 ghost use Rattle.request_machine.specs.Declarations.{sum_reply};
 ghost use Rattle.io_edge.specs.Causes.{Rose};
 ghost use Rattle.request_machine.specs.Fetches.{is_load};
-ghost use Rattle.request_machine.specs.Machine.{LineAnswered, answered, file_line, noise_line, performed};
+ghost use Rattle.request_machine.specs.Machine.{answered, file_line, noise_line, performed};
 ghost use Rattle.request_machine.specs.State.{start_state};
-ghost use Rattle.request_machine.specs.Work.{step_bound};
 ghost use Rattle.session_core.specs.Draws.{Responds};
 ghost use Rattle.session_core.specs.Fetching.{FetchesAnd};
 ghost use Rattle.session_core.specs.Parts.{AreSettled, state_of};
+ghost use Rattle.session_core.specs.Work.{LineWorked, TakesWithin, line_work};
 
 use crate::outcome::Outcome;
 use frac_core::Frac;
@@ -67,8 +67,8 @@ impl Parts {
     ) -> Result<(), Memory>
         requires { AreSettled self.old }
         ensures settled { AreSettled self.new }
-        ensures answered { LineAnswered (F.files shelf.old) (F.faults shelf.old) (F.faults shelf.new)
-            (N.given noise.old) (N.given noise.new)
+        ensures answered { LineWorked (F.files shelf.old) (F.faults shelf.old) (F.faults shelf.new)
+            (N.given noise.old) (N.given noise.new) steps.old steps.new
             (state_of self.old) line.now result reply.new.items (state_of self.new) }
         ensures emptied { OnErr result (reply.new.items ≡ []) }
         ensures later { N.faults noise.old ≤ N.faults noise.new }
@@ -79,7 +79,6 @@ impl Parts {
         ensures file { OnOk result
             (reply.new.items ≡ file_line → Rose (F.faults shelf.old) (F.faults shelf.new)) }
         ensures untouched { is_load (request_on line.now) ≡ false → shelf.new ≡ shelf.old }
-        ensures work { (n : ℕ) → step_bound (request_on line.now) ≡ Some n → steps.new ≤ steps.old + n }
     {
         reply.clear();
         let outcome = self.respond(line, noise, shelf, steps)?;
@@ -98,10 +97,10 @@ impl Parts {
         ensures responds { FetchesAnd (F.files shelf.old) (F.faults shelf.old) (F.faults shelf.new)
             (request_on line.now) (λ fetched. Responds (N.given noise.old) (N.given noise.new)
             (N.faults noise.old) (N.faults noise.new) result self.old self.new
-            (answered (state_of self.old) (request_on line.now) fetched)) }
+            (answered (state_of self.old) (request_on line.now) fetched)
+            × TakesWithin (line_work (state_of self.old) (request_on line.now) fetched) steps.old steps.new) }
         ensures files { F.files shelf.new ≡ F.files shelf.old }
         ensures untouched { is_load (request_on line.now) ≡ false → shelf.new ≡ shelf.old }
-        ensures work { (n : ℕ) → step_bound (request_on line.now) ≡ Some n → steps.new ≤ steps.old + n }
     {
         match read_request(self.alloc, line) {
             Ok(request) => self.perform(request, noise, shelf, steps),
@@ -123,10 +122,10 @@ impl Parts {
         ensures responds { FetchesAnd (F.files shelf.old) (F.faults shelf.old) (F.faults shelf.new)
             (Ok request) (λ fetched. Responds (N.given noise.old) (N.given noise.new)
             (N.faults noise.old) (N.faults noise.new) result self.old self.new
-            (performed (state_of self.old) request fetched)) }
+            (performed (state_of self.old) request fetched)
+            × TakesWithin (line_work (state_of self.old) (Ok request) fetched) steps.old steps.new) }
         ensures files { F.files shelf.new ≡ F.files shelf.old }
         ensures untouched { is_load (Ok request) ≡ false → shelf.new ≡ shelf.old }
-        ensures work { (n : ℕ) → step_bound (Ok request) ≡ Some n → steps.new ≤ steps.old + n }
     {
         match request {
             Request::Measure {

@@ -1,12 +1,12 @@
 //! The session: one line in, one reply out.
-ghost use Rattle.std.specs.Prelude.{◌≡◌, ◌+◌, ◌<◌, ◌≤◌, ℕ, [], false, IfOk, OnErr, OnOk, Some, length};
+ghost use Rattle.std.specs.Prelude.{◌≡◌, ◌<◌, ◌≤◌, [], false, IfOk, OnErr, OnOk, length};
 ghost use Rattle.request_text.specs.Requests.{request_on};
 ghost use Rattle.io_edge.specs.Causes.{Rose};
 ghost use Rattle.request_machine.specs.Fetches.{is_load};
-ghost use Rattle.request_machine.specs.Machine.{LineAnswered, file_line, noise_line};
+ghost use Rattle.request_machine.specs.Machine.{file_line, noise_line};
 ghost use Rattle.request_machine.specs.Sound.{Sound};
 ghost use Rattle.request_machine.specs.State.{start_state};
-ghost use Rattle.request_machine.specs.Work.{step_bound};
+ghost use Rattle.session_core.specs.Work.{LineWorked};
 
 use crate::parts::Parts;
 use io_edge::{Noise, Shelf};
@@ -53,7 +53,7 @@ impl Session {
     /// Leaves the line's reply with its LF in `reply`, which is emptied first. A reply that refuses leaves
     /// the session unchanged. After `Memory` it is unchanged too, and `reply` is empty. Noise that was drawn stays
     /// drawn, and a file that was fetched stays fetched. Only a `load` asks the shelf, for a file of at most
-    /// 16,777,216 bytes.
+    /// 16,777,216 bytes. Whatever the answer, `steps` rises by no more than the line's work.
     pub fn answer<N: Noise, F: Shelf, L: Ledger>(
         &mut self,
         line: &[u8],
@@ -63,11 +63,10 @@ impl Session {
         steps: &mut Steps<L>,
     ) -> Result<(), Memory>
         requires { 0 < length line.now }
-        ensures answered { LineAnswered (F.files shelf.old) (F.faults shelf.old) (F.faults shelf.new)
-            (N.given noise.old) (N.given noise.new)
+        ensures answered { LineWorked (F.files shelf.old) (F.faults shelf.old) (F.faults shelf.new)
+            (N.given noise.old) (N.given noise.new) steps.old steps.new
             self.old line.now result reply.new.items self.new }
         ensures sound { Sound self.new }
-        ensures work { (n : ℕ) → step_bound (request_on line.now) ≡ Some n → steps.new ≤ steps.old + n }
         ensures emptied { OnErr result (reply.new.items ≡ []) }
         ensures later { N.faults noise.old ≤ N.faults noise.new }
         ensures noise { OnOk result

@@ -1,12 +1,15 @@
 //! Weights that are added to a source, and what follows from them in the plans.
-ghost use Rattle.std.specs.Prelude.{◌≡◌, ◌<◌, All, IfOk, List, Result, length};
+ghost use Rattle.std.specs.Prelude.{◌≡◌, ◌+◌, ◌<◌, ◌≤◌, All, IfOk, List, Result, length};
 ghost use Rattle.csv_changes.specs.Changes.{BadRecord, GivesCsv};
 ghost use Rattle.record_text.specs.KindLists.{kinds_of};
 ghost use Rattle.request_machine.specs.State.{OfSource};
 ghost use Rattle.request_machine.specs.Updates.{added_at, followed, updated, updated_by};
 ghost use Rattle.weighted_set.specs.declared.weighted.Weighted.{Weighted};
 ghost use Rattle.session_core.specs.Outcomes.{Does};
-ghost use Rattle.session_core.specs.Parts.{ArePending, AreSettled, state_of};
+ghost use Rattle.session_core.specs.Parts.{ArePending, AreSettled, pending_rows_in, rows_in, state_of, types_in};
+ghost use Rattle.session_core.specs.Work.{outcome_steps, without_plans};
+ghost use Rattle.session_data.specs.Planned.{plan_states};
+ghost use Rattle.session_data.specs.Work.{follow_steps};
 
 use crate::outcome::{Effect, Outcome};
 use crate::parts::Parts;
@@ -28,7 +31,9 @@ impl Parts {
         steps: &mut Steps<L>,
     ) -> Result<Outcome, Memory>
         requires { AreSettled self.old }
-        ensures { Does result self.old self.new (updated (state_of self.old) name csv.now header) }
+        ensures does { Does result self.old self.new (updated (state_of self.old) name csv.now header) }
+        ensures work { steps.new ≤ steps.old + outcome_steps (state_of self.old)
+            (updated (without_plans (state_of self.old)) name csv.now header) }
     {
         let Some(at) = self.sources.place_of(name) else {
             let what = Thing::Source;
@@ -50,8 +55,11 @@ impl Parts {
         requires place { at < length self.old.sources.committed }
         requires kinds { OfSource self.old.sources.committed at
             (λ source. IfOk read (All (λ one. kinds_of one.row ≡ source.kinds))) }
-        ensures { OfSource self.old.sources.committed at (λ source. (changes : Result (List Weighted) BadRecord)
+        ensures does { OfSource self.old.sources.committed at (λ source. (changes : Result (List Weighted) BadRecord)
             → GivesCsv read changes → Does result self.old self.new (updated_by (state_of self.old) at source changes)) }
+        ensures work { OfSource self.old.sources.committed at (λ source. (changes : Result (List Weighted) BadRecord)
+            → GivesCsv read changes → steps.new ≤ steps.old + outcome_steps (state_of self.old)
+            (updated_by (without_plans (state_of self.old)) at source changes)) }
     {
         match read {
             Ok(added) => self.add(at, added.as_slice(), steps),
@@ -71,8 +79,11 @@ impl Parts {
         requires place { at < length self.old.sources.committed }
         requires kinds { OfSource self.old.sources.committed at
             (λ source. All (λ one. kinds_of one.row ≡ source.kinds) added.now) }
-        ensures { OfSource self.old.sources.committed at
+        ensures does { OfSource self.old.sources.committed at
             (λ source. Does result self.old self.new (added_at (state_of self.old) at source added.now)) }
+        ensures work { OfSource self.old.sources.committed at
+            (λ source. steps.new ≤ steps.old + outcome_steps (state_of self.old)
+            (added_at (without_plans (state_of self.old)) at source added.now)) }
     {
         match self.sources.prepare(at, added) {
             Ok(changes) => self.follow(at, changes.as_slice(), added.len() as u64, steps),
@@ -92,7 +103,9 @@ impl Parts {
         steps: &mut Steps<L>,
     ) -> Result<Outcome, Memory>
         requires { ArePending self.old at changes.now }
-        ensures { Does result self.old self.new (followed (state_of self.old) self.old.sources.pending count) }
+        ensures does { Does result self.old self.new (followed (state_of self.old) self.old.sources.pending count) }
+        ensures work { steps.new ≤ steps.old + follow_steps (plan_states self.old.plans.items)
+            (types_in self.old) (rows_in self.old) (pending_rows_in self.old) }
     {
         match prepare_all(self.plans.as_mut_slice(), at, changes, steps) {
             Ok(()) => Ok(Outcome {

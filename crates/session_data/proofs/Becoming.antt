@@ -27,7 +27,7 @@ module _ (types : List SourceType) (F : Family) (planned : Planned) (h : Holds t
   abbrev count : ℕ
   count = length planned.graph.types
 
-  accepted_first : Accepts planned.plan (take count types)
+  pub accepted_first : Accepts planned.plan (take count types)
   accepted_first = subst (λ (ts : List SourceType). Accepts planned.plan ts) (sym h.first) (subst (λ (plan : List Step). Accepts plan planned.graph.types) h.same h.stands.plan.kept.accepted)
 
   pub misfit-of_graph : (X : Family) → length X ≡ length types → misfit planned.plan types X ≡ misfit planned.graph.plan planned.graph.types (take count X)

@@ -20,7 +20,7 @@ use Rattle.session_data.specs.Flow.{TurnsInto}
 
 -- ---- what sources that are declared later change: nothing
 module _ (types : List SourceType) (t : SourceType) (F : Family) (A : Dataset) (same : length F ≡ length types) where
-  left_dataset-more : (s : Step) (made : List Dataset) → knows_source types s ≡ true → left_dataset (types ++ t ∷ []) (F ++ A ∷ []) made s ≡ left_dataset types F made s
+  pub left_dataset-more : (s : Step) (made : List Dataset) → knows_source types s ≡ true → left_dataset (types ++ t ∷ []) (F ++ A ∷ []) made s ≡ left_dataset types F made s
   left_dataset-more (Step.Source name) made e =
       let k = place-known (λ u. name_eq name u.name) (t ∷ []) types e in
       let i = position_or_len (λ (u : SourceType). name_eq name u.name) types in
@@ -29,12 +29,12 @@ module _ (types : List SourceType) (t : SourceType) (F : Family) (A : Dataset) (
       ∙ sym (ap (λ place. unwrap_or (option_map (dataset_at F) place) empty) k.1)
   left_dataset-more s made e = refl
 
-  evals-extended : (p : List Step) → AllByRecursion (λ s. knows_source types s ≡ true) p → evals p (types ++ t ∷ []) (F ++ A ∷ []) ≡ evals p types F
+  pub evals-extended : (p : List Step) → AllByRecursion (λ s. knows_source types s ≡ true) p → evals p (types ++ t ∷ []) (F ++ A ∷ []) ≡ evals p types F
   evals-extended p known =
       step_by_step-agree (eval_step (types ++ t ∷ []) (F ++ A ∷ [])) (eval_step types F) (λ s. knows_source types s ≡ true)
       (λ s made e. ap (λ left. operator_of s left (right_dataset made s)) (left_dataset-more s made e)) [] p known
 
-same_snoc : {X Y : Type 0} (xs : List X) (ys : List Y) (x : X) (y : Y) → length xs ≡ length ys → length (xs ++ x ∷ []) ≡ length (ys ++ y ∷ [])
+pub same_snoc : {X Y : Type 0} (xs : List X) (ys : List Y) (x : X) (y : Y) → length xs ≡ length ys → length (xs ++ x ∷ []) ≡ length (ys ++ y ∷ [])
 same_snoc xs ys x y same = length-append xs (x ∷ []) ∙ ap (λ n. n + 1) same ∙ sym (length-append ys (y ∷ []))
 
 module _ (plan : List Step) where
@@ -56,10 +56,10 @@ module _ (plan : List Step) where
       ∙ evals-later (types ++ t ∷ []) later (F ++ A ∷ []) G (same_snoc F types A t same) (omega arith) (Accepts-extended types t plan accepted)
       ∙ evals-extended types t F A same plan (known-accepted types t plan accepted)
 
-same_take : {X Y : Type 0} (n : ℕ) (xs : List X) (ys : List Y) → length xs ≡ length ys → length (take n xs) ≡ length (take n ys)
+pub same_take : {X Y : Type 0} (n : ℕ) (xs : List X) (ys : List Y) → length xs ≡ length ys → length (take n xs) ≡ length (take n ys)
 same_take n xs ys same = length-take n xs ∙ ap (λ k. min n k) same ∙ sym (length-take n ys)
 
-same_drop : {X Y : Type 0} (n : ℕ) (xs : List X) (ys : List Y) → length xs ≡ length ys → length (drop n xs) ≡ length (drop n ys)
+pub same_drop : {X Y : Type 0} (n : ℕ) (xs : List X) (ys : List Y) → length xs ≡ length ys → length (drop n xs) ≡ length (drop n ys)
 same_drop n xs ys same = length-drop n xs ∙ ap (λ k. k - n) same ∙ sym (length-drop n ys)
 
 -- a plan that is accepted for the first n sources

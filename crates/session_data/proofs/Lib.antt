@@ -9,3 +9,4 @@ pub mod PlanLoops
 pub mod FirstSources
 pub mod Becoming
 pub mod Misfits
+pub mod FirstWork

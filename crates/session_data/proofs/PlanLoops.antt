@@ -1,9 +1,10 @@
 -- Loops over plans that are kept up to date.
-use Rattle.std.proofs.Common.{◌≡◌, ◌≢◌, ◌<◌, ◌≤◌, ℕ, zero, suc, ◌+◌, List, [], ◌∷◌, true, false, refl, ap, subst, ◌∙◌, arith, length, get_or, get_or-set_other, set, nat_lt, Some, None}
+use Rattle.std.proofs.Common.{◌≡◌, ◌≢◌, ◌<◌, ◌≤◌, ℕ, zero, suc, ◌+◌, List, [], ◌∷◌, true, false, refl, sym, ap, subst, ◌∙◌, arith, drop, length, get_or, get_or-set_other, set, nat_lt, Some, None}
 use Rattle.std.proofs.lemmas.List.Elements.{All-from_all_within, All-set, AllWithin-more_set}
+use Rattle.std.proofs.lemmas.List.Sums.{sum_by-drop_more}
 use Rattle.std.proofs.lemmas.Bool.{ltb-true, ltb-false}
 use lib.Seq.{map-set_same}
-use lib.ListN.{length-set}
+use lib.ListN.{get_or-map, length-map, length-set}
 use Rattle.std.specs.Prelude.{All}
 use Rattle.std.specs.List.{AllWithin}
 use Rattle.plan_model.specs.Evaluation.{Family}
@@ -14,6 +15,8 @@ use Rattle.weighted_set.specs.declared.weighted.Change.{Change}
 use Rattle.request_machine.specs.Updates.{first_misfit, range_or}
 use Rattle.session_data.specs.Planned.{Holds, IsPrepared, IsSettled, MayTurnAll, plan_state, plan_states}
 use Rattle.request_machine.specs.State.{PlanState}
+use Rattle.flow_graph.specs.Work.{most_ticks}
+use Rattle.session_data.specs.Work.{PlanWithin, follow_steps}
 use Rattle.session_data.specs.declared.plans.Planned.{Planned}
 
 -- one plan that doesn't fit, where all before it do
@@ -33,6 +36,15 @@ first_misfit-none types G [] fit = refl
 first_misfit-none types G (plan ∷ plans) fit =
     ap (λ o. range_or plan.name o (first_misfit types G (plan_states plans))) (fit zero plan (omega arith))
     ∙ first_misfit-none types G plans (λ k d below. fit (suc k) d (omega (arith, below)))
+
+-- the steps for the plans from a place on: those for the plan there, and those for the rest
+follow_steps-drop : (types : List SourceType) (F G : Family) (old new : List Planned) (at : ℕ) (d : Planned) → plan_states new ≡ plan_states old → at < length new
+    → follow_steps (drop at (plan_states old)) types F G ≡ most_ticks (get_or new at d).plan types F G + follow_steps (drop (at + 1) (plan_states old)) types F G
+follow_steps-drop types F G old new at d states lt =
+    let here : at < length (plan_states old) = subst (λ (ps : List PlanState). at < length ps) states (omega (arith, lt, length-map new plan_state)) in
+    sum_by-drop_more (λ (p : PlanState). most_ticks p.plan types F G) (plan_states old) at (plan_state d) here
+    ∙ ap (λ (p : PlanState). most_ticks p.plan types F G + follow_steps (drop (at + 1) (plan_states old)) types F G)
+    (ap (λ (ps : List PlanState). get_or ps at (plan_state d)) (sym states) ∙ get_or-map plan_state new at d)
 
 -- the changes are pending in the plans before a place, and nothing is in those from there on
 pub record PreparedBefore (source : ℕ) (changes : List Change) (old new : List Planned) (at : ℕ) : Type 0 where
@@ -57,6 +69,16 @@ module _ (source : ℕ) (changes : List Change) (old new : List Planned) (at : �
     before = λ types F G m. AllWithin-more_set new at planned lt (IsPrepared types F G) (h.before types F G m) (prepared types F G m);
     after = λ types F G m. after-set (IsSettled types F) new at planned (h.after types F G m);
   }
+
+  -- the steps that the plans from the place on may take, one plan further
+  pub steps_more : (types : List SourceType) (F G : Family) → MayTurnAll old types source changes F G → (d : Planned) (start before after : ℕ) → at < length new
+      → before + follow_steps (drop at (plan_states old)) types F G ≤ start + follow_steps (plan_states old) types F G
+      → PlanWithin (get_or new at d) source changes before after
+      → after + follow_steps (drop (at + 1) (plan_states old)) types F G ≤ start + follow_steps (plan_states old) types F G
+  steps_more types F G m d start before after lt so_far one =
+      let here = one types F G (h.after types F G m at d (omega arith) lt) m.turns in
+      let split = follow_steps-drop types F G old new at d h.states lt in
+      omega (arith, here, split, so_far)
 
   -- all plans are prepared
   pub all_prepared : length new ≤ at → (types : List SourceType) (F G : Family) → MayTurnAll old types source changes F G → All (IsPrepared types F G) new

@@ -2,3 +2,4 @@ pub mod Flow
 pub mod FlowFaults
 pub mod Held
 pub mod Planned
+pub mod Work

@@ -6,6 +6,7 @@ ghost use Rattle.plan_model.specs.declared.source_types.SourceType.{SourceType};
 ghost use Rattle.session_data.specs.FlowFaults.{IsMisfit};
 ghost use Rattle.session_data.specs.Flow.{TurnsInto};
 ghost use Rattle.session_data.specs.Planned.{Holds, IsFirstMisfit, IsPlace, IsPrepared, IsSettled, MayTurnAll, plan_state, plan_states};
+ghost use Rattle.session_data.specs.Work.{PlanWithin, PlansWithin};
 
 use budget_book::Ask;
 use flow_graph::{FlowGraph, GraphFault};
@@ -66,6 +67,7 @@ impl Planned {
         ensures ok { OnOk result ((types : List SourceType) (F G : Family) → IsSettled types F self.old → TurnsInto types source changes.now F G → IsPrepared types F G self.new) }
         ensures err { OnErr result ((types : List SourceType) (F : Family) → IsSettled types F self.old → IsSettled types F self.new) }
         ensures range { IfErr result (λ e. (types : List SourceType) (F G : Family) → IsSettled types F self.old → TurnsInto types source changes.now F G → IsMisfit self.old.plan types G e) }
+        ensures work { PlanWithin self.old source changes.now steps.old steps.new }
     {
         // A graph doesn't know the sources that were declared after it was built, and its plan uses none of them.
         if source >= self.graph.source_count() {
@@ -89,6 +91,7 @@ pub fn prepare_all<L: Ledger>(
     ensures held { (types : List SourceType) (F G : Family) → MayTurnAll plans.old types source changes.now F G → All (Holds types F) plans.new }
     ensures place { IfErr result (IsPlace plans.old) }
     ensures range { IfErr result (λ e. (types : List SourceType) (F G : Family) → MayTurnAll plans.old types source changes.now F G → IsFirstMisfit plans.old types G e) }
+    ensures work { PlansWithin plans.old source changes.now steps.old steps.new }
 {
     for at in 0..plans.len() {
         let planned = &mut plans[at];

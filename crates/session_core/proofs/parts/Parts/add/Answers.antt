@@ -8,7 +8,7 @@ use Rattle.session_core.specs.Parts.{state_of}
 use Rattle.request_machine.specs.State.{SourceState, State, family_of, types_of}
 use Rattle.session_core.specs.declared.parts.Parts.{Parts}
 use Rattle.session_core.proofs.ComesTo.{Does-alike, Does-told}
-use Rattle.session_core.proofs.Added.{ArePending-added, AreSettled-refused, added_allowed, added_below, added_out, state-refused}
+use Rattle.session_core.proofs.Added.{ArePending-added, AreSettled-refused, added_allowed, added_below, added_out, state-refused, steps_added}
 use Rattle.session_data.proofs.Turned.{somewhere}
 use Rattle.session_core.proofs.parts.Parts.add.Goals as goal
 
@@ -18,8 +18,8 @@ follow-requires g c =
     ArePending-added c.args.self.now c.prepare.new.self c.args.at there.0 c.args.added.now c.in-Ok.changes.items c.as_slice.result.now c.requires.settled there.1
     (c.requires.kinds there.0 there.1) (c.in-Ok.ensures.changes there.0 there.1) c.as_slice.ensures.value c.prepare.ensures.committed (c.in-Ok.ensures.pending there.0 there.1)
 
-pub returns-in-Ok : goal.returns-in-Ok
-returns-in-Ok g c = λ source here.
+pub returns-in-Ok-clause-does : goal.returns-in-Ok-clause-does
+returns-in-Ok-clause-does g c = λ source here.
     let old = c.args.self.now in
     let state = state_of old in
     let adding = c.in-Ok.ensures.changes source here in
@@ -31,10 +31,16 @@ returns-in-Ok g c = λ source here.
     let after : State = record state { sources = pending } in
     updated_at None None (first_misfit (types_of pending) (family_of pending) state.plans) before after (length c.args.added.now)) c.prepare.ensures.committed turned
     ∙ added_allowed state c.args.at source c.args.added.now adding.in_range adding.allowed)
-    c.follow.ensures
+    c.follow.ensures.does
 
-pub returns-in-Err-Range : goal.returns-in-Err-Range
-returns-in-Err-Range g c = λ source here.
+pub returns-in-Ok-clause-work : goal.returns-in-Ok-clause-work
+returns-in-Ok-clause-work g c = λ source here.
+    let adding = c.in-Ok.ensures.changes source here in
+    steps_added c.args.self.now c.prepare.new.self c.args.at source c.args.added.now c.args.steps.now c.follow.new.steps adding.in_range adding.allowed
+    c.prepare.ensures.committed (c.in-Ok.ensures.pending source here) c.follow.ensures.work
+
+pub returns-in-Err-Range-clause-does : goal.returns-in-Err-Range-clause-does
+returns-in-Err-Range-clause-does g c = λ source here.
     let old = c.args.self.now in
     let new : Parts = record old { sources = c.prepare.new.self } in
     let fault = subst (λ (e : AddFault). IsAddFault source.rows c.args.added.now source.signed e) c.in-Err-Range.field-0-is (c.in-Err-Range.ensures.err source here) in
@@ -46,8 +52,8 @@ returns-in-Err-Range g c = λ source here.
     (Does-told new told.result (reply.Refused (refusal.RecordRange c.in-Err-Range.at)) _
     (AreSettled-refused old c.prepare.new.self c.requires.settled c.prepare.ensures.committed c.in-Err-Range.ensures.none_pending) told.ensures.reply told.ensures.effect is)
 
-pub returns-in-Err-Negative : goal.returns-in-Err-Negative
-returns-in-Err-Negative g c = λ source here.
+pub returns-in-Err-Negative-clause-does : goal.returns-in-Err-Negative-clause-does
+returns-in-Err-Negative-clause-does g c = λ source here.
     let old = c.args.self.now in
     let new : Parts = record old { sources = c.prepare.new.self } in
     let fault = subst (λ (e : AddFault). IsAddFault source.rows c.args.added.now source.signed e) c.in-Err-Negative.field-0-is (c.in-Err-Negative.ensures.err source here) in
@@ -59,8 +65,8 @@ returns-in-Err-Negative g c = λ source here.
     (Does-told new told.result (reply.Refused (refusal.Negative c.in-Err-Negative.at)) _
     (AreSettled-refused old c.prepare.new.self c.requires.settled c.prepare.ensures.committed c.in-Err-Negative.ensures.none_pending) told.ensures.reply told.ensures.effect is)
 
-pub returns-in-Err-Memory : goal.returns-in-Err-Memory
-returns-in-Err-Memory g c = λ source here.
+pub returns-in-Err-Memory-clause-does : goal.returns-in-Err-Memory-clause-does
+returns-in-Err-Memory-clause-does g c = λ source here.
     let old = c.args.self.now in
     record {
       same = state-refused old c.prepare.new.self c.prepare.ensures.committed;

@@ -14,7 +14,7 @@ use Rattle.session_data.specs.declared.plans.Planned.{Planned}
 use Rattle.session_data.specs.declared.plans.PlansFault.{PlansFault}
 use Rattle.session_data.proofs.PlanLoops.{name-states}
 use Rattle.session_core.proofs.Aborted.{All-replaced, AreKept-same, states_are}
-use Rattle.session_core.proofs.Followed.{follow_ok, may_turn}
+use Rattle.session_core.proofs.Followed.{follow_ok, follow_within, may_turn}
 use Rattle.session_core.proofs.parts.Parts.follow.Goals as goal
 
 pub prepare_all-requires : goal.prepare_all-requires
@@ -48,8 +48,8 @@ abort-requires-in-Err-Memory g c =
           (may_turn c.args.self.now c.args.at c.args.changes.now c.as_mut_slice.result.now c.requires c.as_mut_slice.ensures.value));
     }
 
-pub returns-in-Ok : goal.returns-in-Ok
-returns-in-Ok g c =
+pub returns-in-Ok-clause-does : goal.returns-in-Ok-clause-does
+returns-in-Ok-clause-does g c =
     let old = c.args.self.now in
     let sources = old.sources in
     let state = state_of old in
@@ -75,8 +75,8 @@ returns-in-Ok g c =
       };
     }
 
-pub returns-in-Err-Range : goal.returns-in-Err-Range
-returns-in-Err-Range g c =
+pub returns-in-Err-Range-clause-does : goal.returns-in-Err-Range-clause-does
+returns-in-Err-Range-clause-does g c =
     let old = c.args.self.now in
     let sources = old.sources in
     let types = types_of sources.committed in
@@ -107,8 +107,8 @@ returns-in-Err-Range g c =
     ∙ sym (ap (λ (o : Option Refusal). updated_at None None o state turned c.args.count) unfit))
     (Does-told new told.result (reply.Refused why) (state_of new, reply.Refused why) c.abort.ensures.settled told.ensures.reply told.ensures.effect refl)
 
-pub returns-in-Err-Memory : goal.returns-in-Err-Memory
-returns-in-Err-Memory g c =
+pub returns-in-Err-Memory-clause-does : goal.returns-in-Err-Memory-clause-does
+returns-in-Err-Memory-clause-does g c =
     let old = c.args.self.now in
     let states = c.in-Err-Memory.ensures.states ∙ ap plan_states c.as_mut_slice.ensures.value in
     let there = states_are old old.sources c.prepare_all.new.plans c.requires.kept states in
@@ -116,3 +116,15 @@ returns-in-Err-Memory g c =
       same = c.abort-in-Err-Memory.ensures.state ∙ ap (λ (ps : List PlanState). let s : State = record { curator = old.curator; sources = old.sources.committed; plans = ps } in s) there;
       done = c.abort-in-Err-Memory.ensures.settled;
     }
+
+pub returns-in-Ok-clause-work : goal.returns-in-Ok-clause-work
+returns-in-Ok-clause-work g c =
+    follow_within c.args.self.now c.args.at c.args.changes.now c.as_mut_slice.result.now c.args.steps.now c.prepare_all.new.steps c.requires c.as_mut_slice.ensures.value c.prepare_all.ensures.work
+
+pub returns-in-Err-Range-clause-work : goal.returns-in-Err-Range-clause-work
+returns-in-Err-Range-clause-work g c =
+    follow_within c.args.self.now c.args.at c.args.changes.now c.as_mut_slice.result.now c.args.steps.now c.prepare_all.new.steps c.requires c.as_mut_slice.ensures.value c.prepare_all.ensures.work
+
+pub returns-in-Err-Memory-clause-work : goal.returns-in-Err-Memory-clause-work
+returns-in-Err-Memory-clause-work g c =
+    follow_within c.args.self.now c.args.at c.args.changes.now c.as_mut_slice.result.now c.args.steps.now c.prepare_all.new.steps c.requires c.as_mut_slice.ensures.value c.prepare_all.ensures.work

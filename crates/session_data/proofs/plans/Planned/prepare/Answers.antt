@@ -1,11 +1,12 @@
 -- A source that the graph knows changes in the graph, and another changes nothing there.
-use Rattle.std.proofs.Common.{◌≡◌, ◌<◌, ◌≤◌, List, ap, ap₂, arith, subst, sym, take, length, ◌∙◌}
+use Rattle.std.proofs.Common.{◌≡◌, ◌<◌, ◌≤◌, ◌+◌, ◌*◌, ℕ, List, ap, ap₂, arith, subst, sym, take, length, ◌∙◌}
 use Rattle.plan_model.specs.Fits.{misfit}
 use Rattle.plan_model.specs.declared.step.Step.{Step}
 use Rattle.plan_model.specs.declared.source_types.SourceType.{SourceType}
 use Rattle.session_data.specs.Flow.{Becomes}
 use Rattle.session_data.proofs.Becoming.{Becomes-pending, Holds-kept, IsPrepared-late, misfit-of_graph, turns_early}
 use Rattle.session_data.proofs.FirstSources.{length-Keeps}
+use Rattle.session_data.proofs.FirstWork.{plan_work-of_graph}
 use Rattle.session_data.proofs.Misfits.{is_misfit}
 use Rattle.session_data.proofs.PlanSteps.{IfErr-map, OnErr-map, OnOk-map}
 use Rattle.session_data.proofs.plans.Planned.prepare.Goals as goal
@@ -55,3 +56,12 @@ returns-clause-range g c =
     misfit-of_graph types F planned h.holds G (length-Keeps types G turns.keeps)
     ∙ told i is (take n F) (take n G) h.holds.stands (turns_early types c.args.source c.args.changes.now F G planned h turns (subst (λ n. c.args.source < n) c.source_count.ensures c.if-source-source_count.false))))
     c.prepare.ensures.range
+
+pub returns-clause-work : goal.returns-clause-work
+returns-clause-work g c types F G h turns =
+    let planned = c.args.self.now in
+    let n = length planned.graph.types in
+    subst (λ (work : ℕ). c.prepare.new.steps ≤ c.args.steps.now + (8 * work + 8))
+    (sym (plan_work-of_graph types F G planned h.holds (length-Keeps types G turns.keeps)))
+    (c.prepare.ensures.work (take n F) (take n G) h.holds.stands
+    (turns_early types c.args.source c.args.changes.now F G planned h turns (subst (λ m. c.args.source < m) c.source_count.ensures c.if-source-source_count.false)))

@@ -14,7 +14,7 @@ returns-then-is_empty-clause-served g c =
 
 pub returns-in-Ok-clause-served : goal.returns-in-Ok-clause-served
 returns-in-Ok-clause-served g c =
-    let a = c.in-Ok.ensures.answered in
+    let a = c.in-Ok.ensures.answered.line_answered in
     let w = rw c.deref.ensures.value at c.write_all.ensures.written in
     let reply = c.answer.new.reply.items in
     let noise = RoseBy-one noise_line reply _ _ c.answer.ensures.later c.in-Ok.ensures.noise in
@@ -24,7 +24,7 @@ returns-in-Ok-clause-served g c =
 
 pub returns-in-Err-clause-served : goal.returns-in-Err-clause-served
 returns-in-Err-clause-served g c =
-    let a = c.in-Err.ensures.answered in
+    let a = c.in-Err.ensures.answered.line_answered in
     let w = c.write_all-in-Err.ensures.written in
     let noise = RoseBy-one noise_line memory_line _ _ c.answer.ensures.later memory_not_noise in
     let shelf = RoseBy-one file_line memory_line _ _ c.answer.ensures.shelf memory_not_file in
