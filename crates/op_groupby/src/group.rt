@@ -14,7 +14,7 @@ ghost use Rattle.op_groupby.specs.GroupLaws.{group_fits_by_part, group_output_in
 use crate::order::by_falling_weight;
 use crate::walk::walk;
 use frac_core::Frac;
-use op_parts::{made_row, push_row, tick_each};
+use op_parts::{made_row, push_made, tick_each};
 use plan_model::{Exprs, Reducer};
 use record_text::{Kinds, Row};
 use std::marker::Model;
@@ -85,7 +85,7 @@ impl PartOp for GroupOp {
         match side {
             Side::Left => {
                 let key = made_row(*into.allocator(), &self.key, row)?;
-                push_row(&key, Frac::one(), into)?;
+                push_made(key, Frac::one(), into)?;
                 Ok(())
             }
             Side::Right => Ok(()),

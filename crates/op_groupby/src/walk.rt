@@ -9,24 +9,11 @@ ghost use Rattle.op_groupby.specs.Taking.{ReadsRow};
 
 use crate::taken::Taken;
 use frac_core::Frac;
+use op_parts::followed_by;
 use plan_model::Reducer;
 use record_text::{Atom, Row};
 use std::alloc::Global;
 use weighted_set::{Memory, OpFault, WSet, Weighted};
-
-// The row followed by an atom.
-fn followed_by(alloc: Global, row: &Row, atom: Atom) -> Result<Row, Memory>
-    requires { length row.now < 16 }
-    ensures { IfOk result (λ made. made ≡ row.now ++ atom ∷ []) }
-{
-    let mut atoms = Vec::with_capacity(alloc, row.len() + 1)?;
-    for at in 0..row.len() {
-        let copy = row.atom(at).try_copy()?;
-        atoms.push(copy)?;
-    }
-    atoms.push(atom)?;
-    Ok(Row::from_atoms(atoms))
-}
 
 // Whether the row at a place is there, and has this weight.
 fn is_tie(weight: Frac, order: &[&Weighted], at: usize) -> bool

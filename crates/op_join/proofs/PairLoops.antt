@@ -6,16 +6,24 @@ use Rattle.std.proofs.lemmas.Bool.{false_from_ne_true}
 use Rattle.std.proofs.lemmas.Grind.{flat_map-append}
 use Rattle.std.proofs.lemmas.List.{append-nil}
 use Rattle.std.proofs.lemmas.List.Folds.{list_all-append, list_all-map}
-use Rattle.ratios.specs.Range.{in_range}
-use Rattle.ratios.specs.Ratio.{Ratio}
+use Rattle.ratios.specs.Range.{checked, in_range}
+use Rattle.ratios.specs.Ratio.{Ratio, ratio_div, zero_ratio}
+use Rattle.ratios.proofs.Divided.{zero_div}
+use Rattle.ratios.proofs.Products.{ratio_mul_zero}
+use Rattle.ratios.proofs.Range.{checked-in}
 use Rattle.record_text.proofs.Lists.{front_more, map-front_more, passes_at}
 use Rattle.datasets.specs.Entries.{Entries, Row}
 use Rattle.weighted_set.specs.declared.weighted.Weighted.{Weighted}
-use Rattle.op_join.specs.Pairs.{all_pairs, entries_in_range, pair_entry, row_pairs}
+use Rattle.weighted_set.proofs.Sets.{InRange-zero}
+use Rattle.op_join.specs.Pairs.{all_pairs, checked_weight, entries_in_range, pair_entry, row_pairs}
 
 -- entries whose front and back are in range are
 both_in_range : (es fs : Entries) → entries_in_range es ≡ true → entries_in_range fs ≡ true → entries_in_range (es ++ fs) ≡ true
 both_in_range es fs h k = list_all-append (λ e. in_range e.1) es fs ∙ ap₂ (λ a b. a && b) h k
+
+-- a pair with a weight of 0 weighs 0
+pub checked_weight-none : (d w : Ratio) → Some zero_ratio ≡ checked_weight d w zero_ratio
+checked_weight-none d w = sym (checked-in zero_ratio InRange-zero) ∙ ap checked (sym (ap (λ q. ratio_div q d) (ratio_mul_zero w) ∙ zero_div d))
 
 -- ---- the pairs of one row
 

@@ -1,11 +1,15 @@
 -- The entries that pairs of listed rows make.
-use Rattle.std.specs.Prelude.{◌+◌, ◌≤◌, ◌++◌, All, Bool, List, flat_map, length, map}
+use Rattle.std.specs.Prelude.{◌+◌, ◌≤◌, ◌++◌, All, Bool, List, Option, flat_map, length, map}
 use Rattle.std.specs.List.{list_all}
-use Rattle.ratios.specs.Range.{in_range}
+use Rattle.ratios.specs.Range.{checked, in_range}
 use Rattle.ratios.specs.Ratio.{Ratio, ratio_div, ratio_mul}
 use Rattle.datasets.specs.Entries.{Entries, Row}
 use Rattle.plan_model.specs.Sizes.{max_width}
 use Rattle.weighted_set.specs.declared.weighted.Weighted.{Weighted}
+
+-- the product of two weights divided by d, or nothing where it is out of range
+abbrev pub checked_weight : Ratio → Ratio → Ratio → Option Ratio
+checked_weight d w v = checked (ratio_div (ratio_mul w v) d)
 
 -- a row followed by another, with the product of their weights divided by d
 abbrev pub pair_entry : Ratio → Weighted → Weighted → Row × Ratio

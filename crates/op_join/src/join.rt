@@ -10,7 +10,7 @@ ghost use Rattle.op_join.specs.JoinLaws.{join_fits_by_part, join_output_in_range
 use crate::norms::both_norms;
 use crate::pairs::push_pairs;
 use frac_core::Frac;
-use op_parts::{made_row, push_row, tick_each};
+use op_parts::{made_row, push_made, tick_each};
 use plan_model::Exprs;
 use record_text::{Kinds, Row};
 use std::alloc::Global;
@@ -106,7 +106,7 @@ impl PartOp for JoinOp {
     fn touch(&self, side: Side, row: &Row, into: &mut Vec<Weighted>) -> Result<(), Memory> {
         into.clear();
         let key = made_row(self.alloc, self.key_of(side), row)?;
-        push_row(&key, Frac::one(), into)?;
+        push_made(key, Frac::one(), into)?;
         Ok(())
     }
 

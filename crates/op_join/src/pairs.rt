@@ -1,12 +1,13 @@
 //! The pairs of the rows of two parts.
-ghost use Rattle.std.specs.Prelude.{◌≡◌, ◌≢◌, ◌≤◌, ◌+◌, [], ◌∷◌, ◌++◌, All, IfErr, OnOk, false, length, true};
+ghost use Rattle.std.specs.Prelude.{◌≡◌, ◌≢◌, ◌≤◌, ◌+◌, [], ◌∷◌, ◌++◌, All, IfErr, OnOk, Some, false, length, true};
 ghost use Rattle.plan_model.specs.Sizes.{max_width};
 ghost use Rattle.ratios.specs.Ratio.{zero_ratio};
 ghost use Rattle.weighted_set.specs.declared.part_op.OpFault.TheVariants as fault;
 ghost use Rattle.op_parts.specs.Appended.{Appends};
-ghost use Rattle.op_join.specs.Pairs.{FollowNarrowly, IsNarrow, all_pairs, pairs_in_range, row_in_range, row_pairs};
+ghost use Rattle.op_join.specs.Pairs.{FollowNarrowly, IsNarrow, all_pairs, checked_weight, pairs_in_range, row_in_range, row_pairs};
 
 use frac_core::Frac;
+use op_parts::push_made;
 use record_text::Row;
 use weighted_set::{Memory, OpFault, Weighted};
 
@@ -21,8 +22,19 @@ fn push_pair(
     ensures { OnOk result (Appends into.old.items ((first.now ++ second.now, weight) ∷ []) into.new.items) }
 {
     let row = first.concat(second)?;
-    into.push(Weighted { row, weight })?;
-    Ok(())
+    push_made(row, weight, into)
+}
+
+// The weight of a pair: that which is known, where the row on the right weighs as much as that of the known pair.
+fn pair_weight(left: Frac, right: Frac, norms: Frac, known: (Frac, Frac)) -> Option<Frac>
+    requires some { norms ≢ zero_ratio }
+    requires known { Some known.1 ≡ checked_weight norms left known.0 }
+    ensures { result ≡ checked_weight norms left right }
+{
+    if right == known.0 {
+        return Some(known.1);
+    }
+    left.mul_div(right, norms)
 }
 
 // Appends an entry's row followed by each row of a list, with the products of their weights divided by `norms`.
@@ -38,11 +50,14 @@ fn push_row_pairs(
     ensures fits { OnOk result (row_in_range norms entry.now right.now ≡ true) }
     ensures range { IfErr result (λ e. e ≡ fault.Range → row_in_range norms entry.now right.now ≡ false) }
 {
+    // A weight on the right, and that of a pair with it. Rows that follow one another often weigh the same.
+    let mut known = (Frac::zero(), Frac::zero());
     for other in right {
-        let Some(weight) = entry.weight.mul_div(other.weight, norms) else {
+        let Some(weight) = pair_weight(entry.weight, other.weight, norms, known) else {
             return Err(OpFault::Range);
         };
         push_pair(&entry.row, &other.row, weight, into)?;
+        known = (other.weight, weight);
     }
     Ok(())
 }

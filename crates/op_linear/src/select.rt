@@ -12,7 +12,7 @@ ghost use Rattle.op_parts.proofs.Takes.{columns_told, takes_row};
 
 use crate::sums::list_sum;
 use frac_core::Frac;
-use op_parts::{made_row, push_row, tick_each};
+use op_parts::{made_row, push_made, tick_each};
 use plan_model::Exprs;
 use record_text::{Kinds, Row};
 use std::alloc::Global;
@@ -80,7 +80,7 @@ impl PartOp for SelectOp {
         match side {
             Side::Left => {
                 let key = made_row(self.alloc, &self.row, row)?;
-                push_row(&key, Frac::one(), into)?;
+                push_made(key, Frac::one(), into)?;
                 Ok(())
             }
             Side::Right => Ok(()),

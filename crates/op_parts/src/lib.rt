@@ -5,6 +5,6 @@
 mod lists;
 mod rows;
 
-pub use lists::{is_zero, push_row, push_rows, tick_each};
-pub use rows::{made_row, passes};
+pub use lists::{is_zero, push_made, push_row, push_rows, tick_each};
+pub use rows::{followed_by, made_row, passes};
 pub use weighted_set::Memory;

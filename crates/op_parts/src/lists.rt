@@ -28,14 +28,22 @@ pub fn is_zero(weight: Frac) -> bool
     weight.numer() == 0
 }
 
+/// Appends a row, with a weight.
+pub fn push_made(row: Row, weight: Frac, into: &mut Vec<Weighted>) -> Result<(), Memory>
+    ensures ok { OnOk result (Appends into.old.items ((row, weight) ∷ []) into.new.items) }
+    ensures err { OnErr result (into.new.items ≡ into.old.items) }
+{
+    into.push(Weighted { row, weight })?;
+    Ok(())
+}
+
 /// Appends a copy of a row, with a weight.
 pub fn push_row(row: &Row, weight: Frac, into: &mut Vec<Weighted>) -> Result<(), Memory>
     ensures ok { OnOk result (Appends into.old.items ((row.now, weight) ∷ []) into.new.items) }
     ensures err { OnErr result (into.new.items ≡ into.old.items) }
 {
-    let row = row.try_copy()?;
-    into.push(Weighted { row, weight })?;
-    Ok(())
+    let copy = row.try_copy()?;
+    push_made(copy, weight, into)
 }
 
 /// Appends copies of the rows of a list, with their weights. After a refusal the list is as before.

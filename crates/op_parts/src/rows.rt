@@ -1,7 +1,8 @@
-//! What expressions make of a row.
-ghost use Rattle.std.specs.Prelude.{◌≡◌, IfOk, IsTrue};
+//! What expressions make of a row, and rows with an atom more.
+ghost use Rattle.std.specs.Prelude.{◌≡◌, ◌<◌, ◌++◌, [], ◌∷◌, IfOk, IsTrue, length};
 ghost use Rattle.plan_model.specs.Acceptance.{have_kinds};
 ghost use Rattle.plan_model.specs.Evaluation.{passes, row_of};
+ghost use Rattle.plan_model.specs.Sizes.{max_width};
 ghost use Rattle.plan_model.specs.Types.{kind_over};
 ghost use Rattle.plan_model.specs.Values.{is_typed, term_of};
 ghost use Rattle.record_text.specs.KindLists.{kinds_of};
@@ -34,5 +35,19 @@ pub fn made_row(alloc: Global, exprs: &Exprs, row: &Row) -> Result<Row, Memory>
         let atom = exprs.at(at).eval(alloc, row)?;
         atoms.push(atom)?;
     }
+    Ok(Row::from_atoms(atoms))
+}
+
+/// The row followed by an atom.
+pub fn followed_by(alloc: Global, row: &Row, atom: Atom) -> Result<Row, Memory>
+    requires { length row.now < max_width }
+    ensures { IfOk result (λ made. made ≡ row.now ++ atom ∷ []) }
+{
+    let mut atoms = Vec::with_capacity(alloc, row.len() + 1)?;
+    for at in 0..row.len() {
+        let copy = row.atom(at).try_copy()?;
+        atoms.push(copy)?;
+    }
+    atoms.push(atom)?;
     Ok(Row::from_atoms(atoms))
 }

@@ -13,6 +13,7 @@ ghost use Rattle.op_shave.specs.Shave.{row_fits, shaved_row};
 ghost use Rattle.op_shave.specs.Shavings.{RunIsShaved, left_in_range, left_of, run_pieces};
 
 use frac_core::Frac;
+use op_parts::{followed_by, push_made};
 use plan_model::{Run, Runs};
 use record_text::{Atom, Row};
 use std::alloc::Global;
@@ -41,20 +42,6 @@ fn left_of(weight: Frac, piece: Frac) -> Option<Frac>
     }
 }
 
-// The row followed by a place.
-fn numbered(alloc: Global, row: &Row, place: u32) -> Result<Row, Memory>
-    requires { length row.now < max_width }
-    ensures { IfOk result (λ made. made ≡ numbered (row.now, place)) }
-{
-    let mut atoms = Vec::with_capacity(alloc, row.len() + 1)?;
-    for at in 0..row.len() {
-        let atom = row.atom(at).try_copy()?;
-        atoms.push(atom)?;
-    }
-    atoms.push(Atom::Int(i64::from(place)))?;
-    Ok(Row::from_atoms(atoms))
-}
-
 // Appends the row followed by a place, with the weight of a piece.
 fn push_piece(row: &Row, place: u32, weight: Frac, into: &mut Vec<Weighted>) -> Result<(), Memory>
     requires { length row.now < max_width }
@@ -63,9 +50,8 @@ fn push_piece(row: &Row, place: u32, weight: Frac, into: &mut Vec<Weighted>) -> 
 {
     // Tells that the weight is in range.
     let _numerator = weight.numer();
-    let row = numbered(*into.allocator(), row, place)?;
-    into.push(Weighted { row, weight })?;
-    Ok(())
+    let row = followed_by(*into.allocator(), row, Atom::Int(i64::from(place)))?;
+    push_made(row, weight, into)
 }
 
 // Lists the pieces of a run while something is left of the weight, and gives what is left of it then, or

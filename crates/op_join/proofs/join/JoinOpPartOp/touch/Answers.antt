@@ -11,7 +11,7 @@ pub returns-clause-ok : goal.returns-clause-ok
 returns-clause-ok c =
     let op = c.args.self.now in
     let x = c.args.row.now in
-    c.in_ok-push_row.ensures.ok
+    c.in_ok-push_made.ensures.ok
     ∙ ap (λ xs. entries_of xs ++ (c.in_ok-key.key, c.one.result) ∷ []) c.clear.ensures.items
     ∙ ap (λ w. (c.in_ok-key.key, w) ∷ []) c.one.ensures
     ∙ ap (λ k. (k, one_ratio) ∷ []) (c.in_ok-key.ensures ∙ ap (λ es. row_of es x) c.key_of.ensures.key)

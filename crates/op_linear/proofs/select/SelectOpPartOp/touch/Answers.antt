@@ -7,11 +7,11 @@ use Rattle.op_linear.specs.Select.{SelectParts, select_keys}
 use Rattle.op_parts.proofs.OneRows.{entries-empty, entries-one_key}
 use Rattle.op_linear.proofs.select.SelectOpPartOp.touch.Goals as goal
 
-pub returns-in_ok-push_row-in-Left-clause-ok : goal.returns-in_ok-push_row-in-Left-clause-ok
-returns-in_ok-push_row-in-Left-clause-ok c =
+pub returns-in_ok-push_made-in-Left-clause-ok : goal.returns-in_ok-push_made-in-Left-clause-ok
+returns-in_ok-push_made-in-Left-clause-ok c =
     let op = c.args.self.now in
     let x = c.args.row.now in
-    c.in_ok-push_row-in-Left.ensures.ok
+    c.in_ok-push_made-in-Left.ensures.ok
     ∙ ap (λ xs. entries_of xs ++ (c.in_ok-key-in-Left.key, c.one.result) ∷ []) c.clear.ensures.items
     ∙ ap (λ w. (c.in_ok-key-in-Left.key, w) ∷ []) c.one.ensures
     ∙ sym (ap (λ side. (select_keys op side x).entries) c.in-Left.is ∙ entries-one_key (row_of op.row x) ∙ sym (ap (λ k. (k, one_ratio) ∷ []) (c.in_ok-key-in-Left.ensures ∙ ap (λ (op : SelectParts). row_of op.row x) c.self.view_is)))

@@ -3,7 +3,7 @@ use Rattle.std.proofs.Common.{arith}
 use Rattle.std.proofs.lemmas.List.{take_all}
 use Rattle.std.proofs.Common.{◌++◌, [], ◌∷◌, ap, sym, take, ◌∙◌}
 use Rattle.record_text.proofs.Lists.{front_more}
-use Rattle.op_groupby.proofs.walk.followed_by.Goals as goal
+use Rattle.op_parts.proofs.rows.followed_by.Goals as goal
 
 pub loop-at-preserved : goal.loop-at-preserved
 loop-at-preserved c =
