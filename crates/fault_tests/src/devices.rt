@@ -1,7 +1,8 @@
 //! A source and a sink that fail at each of their calls, and input that is cut after each byte.
 
-use crate::script::{REST, first_lines, run, sink_of, source_of, texts};
+use crate::script::{REST, run, sink_of, source_of, texts};
 use std::test::Fail;
+use trial_runs::first_lines;
 
 /// How many bytes the source gives in a call.
 const PIECE: usize = 7;

@@ -2,8 +2,7 @@
 
 use io_edge::{MemNoise, MemShelf, MemSink, MemSource};
 use std::alloc::Global;
-use std::test::Fail;
-use wpinq_program::{Ending, Word, wpinq};
+use trial_runs::{Memory, Told, of_rows, run_with_files};
 
 /// Lines, each with its reply.
 pub type Rows<'a> = &'a [(&'a str, &'a str)];
@@ -55,38 +54,19 @@ pub const REST: [(&str, &str); 2] = [
 ];
 
 /// The lines of the opening and these, and their replies, each as one text.
-pub fn texts(alloc: Global, rows: Rows) -> Result<(String, String), Fail> {
-    let mut input = String::new(alloc);
-    let mut replies = String::new(alloc);
-    for (line, reply) in OPENING.iter().chain(rows.iter()) {
-        input.push_str(line)?;
-        input.push('\n')?;
-        replies.push_str(reply)?;
-        replies.push('\n')?;
-    }
-    Ok((input, replies))
-}
-
-/// The first so many lines of a text.
-pub fn first_lines(alloc: Global, text: &str, count: usize) -> Result<String, Fail> {
-    let mut front = String::new(alloc);
-    for line in text.split_inclusive('\n').take(count) {
-        front.push_str(line)?;
-    }
-    Ok(front)
+pub fn texts(alloc: Global, rows: Rows) -> Result<(String, String), Memory> {
+    of_rows(alloc, &OPENING, rows)
 }
 
 /// Runs the top call with the curator's word: how it ends, and what is written. The noise gives 5, -7, 11 and 4, and
 /// fails at these calls, and so does the shelf, which has the file that is loaded.
 pub fn run(
     alloc: Global,
-    mut source: MemSource,
-    mut sink: MemSink,
+    source: MemSource,
+    sink: MemSink,
     noise_fails: &[u64],
     shelf_fails: &[u64],
-) -> Result<(Ending, String), Fail> {
-    let mut words = Vec::new(alloc);
-    words.push(Word::new(String::from_str(alloc, "--curator")?))?;
+) -> Result<Told, Memory> {
     let numbers = Vec::from_slice(alloc, &[5, -7, 11, 4])?;
     let mut noise = MemNoise::new(alloc, numbers, Vec::from_slice(alloc, noise_fails)?)?;
     let mut shelf = MemShelf::new(alloc);
@@ -94,25 +74,16 @@ pub fn run(
     for call in shelf_fails {
         shelf.fail_at(*call)?;
     }
-    let ending = wpinq(
-        alloc,
-        &words,
-        &mut source,
-        &mut sink,
-        &mut noise,
-        &mut shelf,
-    );
-    let written = Vec::from_slice(alloc, sink.bytes())?;
-    Ok((ending, String::from_utf8(written)?))
+    run_with_files(alloc, &["--curator"], source, sink, &mut noise, &mut shelf)
 }
 
 /// A source of these bytes, in pieces of 7.
-pub fn source_of(alloc: Global, bytes: &[u8], fails: &[u64]) -> Result<MemSource, Fail> {
+pub fn source_of(alloc: Global, bytes: &[u8], fails: &[u64]) -> Result<MemSource, Memory> {
     let bytes = Vec::from_slice(alloc, bytes)?;
     Ok(MemSource::new(bytes, 7, Vec::from_slice(alloc, fails)?))
 }
 
 /// A sink that takes 5 bytes in a call.
-pub fn sink_of(alloc: Global, fails: &[u64]) -> Result<MemSink, Fail> {
-    Ok(MemSink::new(alloc, 10_000, 5, Vec::from_slice(alloc, fails)?)?)
+pub fn sink_of(alloc: Global, fails: &[u64]) -> Result<MemSink, Memory> {
+    MemSink::new(alloc, 10_000, 5, Vec::from_slice(alloc, fails)?)
 }

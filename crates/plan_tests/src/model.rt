@@ -4,7 +4,6 @@ ghost use Rattle.record_text.specs.KindLists.{kind_of, kinds_of};
 ghost use Rattle.plan_model.specs.Limits.{is_plan};
 ghost use Rattle.plan_model.specs.Values.{has_places, term_of};
 
-use crate::texts::{plan, with_test};
 use frac_core::Frac;
 use plan_model::{
     Expr, ExprFault, Exprs, Item, Items, Memory, Plan, Run, Runs, SetKind, SourceType, SourceTypes,
@@ -13,6 +12,7 @@ use plan_model::{
 use record_text::{Atom, Kind, Kinds, Name, Row, ShortText};
 use std::alloc::Global;
 use std::test::Fail;
+use trial_plans::{plan, with_test};
 
 // The plan of a source and its rows that pass a test.
 fn tested(alloc: Global, test: &str) -> Result<Plan, Fail> {

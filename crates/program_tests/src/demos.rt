@@ -1,11 +1,10 @@
 //! Runs of the demo.
 ghost use Rattle.std.specs.Prelude.{◌≤◌};
 
-use crate::runs::run;
 use io_edge::{MemSink, MemSource, SureNoise};
 use std::alloc::Global;
 use std::test::Fail;
-use wpinq_program::Ending;
+use trial_runs::{Told, run};
 
 const REPLIES: &str = r#"{"ok":true,"weights":["500","0","0","0","0"]}
 {"ok":true,"weights":["1/4","1/4","1/4","1/4","0"]}
@@ -14,18 +13,13 @@ const REPLIES: &str = r#"{"ok":true,"weights":["500","0","0","0","0"]}
 
 /// Runs under these words over a source that must not be read, and a sink that takes pieces of this length and fails at
 /// these calls.
-fn demo(
-    alloc: Global,
-    texts: &[&str],
-    piece: usize,
-    fails: Vec<u64>,
-) -> Result<(Ending, String), Fail>
+fn demo(alloc: Global, texts: &[&str], piece: usize, fails: Vec<u64>) -> Result<Told, Fail>
     requires { 1 ≤ piece }
 {
     let unread = Vec::from_slice(alloc, b"{\"op\":\"sum\",\"weights\":[]}\n")?;
     let source = MemSource::new(unread, 64, [0].to_vec(alloc)?);
     let sink = MemSink::new(alloc, 1_000, piece, fails)?;
-    run(alloc, texts, source, sink, &mut SureNoise::new())
+    Ok(run(alloc, texts, source, sink, &mut SureNoise::new())?)
 }
 
 #[test]

@@ -1,8 +1,8 @@
 //! A run that loads files from a shelf in memory.
 
-use crate::runs::run_with_files;
 use io_edge::{MemShelf, MemSink, MemSource, SureNoise};
 use std::test::Fail;
+use trial_runs::run_with_files;
 
 const SESSION: &str = r#"{"op":"source","name":"a","kinds":["int"],"signed":false,"budget":300000}
 {"op":"load","source":"a","path":"d.csv","header":true}

@@ -1,10 +1,11 @@
 //! Runs of the top call over devices in memory.
-ghost use Rattle.std.specs.Prelude.{◌≤◌, ◌≢◌};
+ghost use Rattle.std.specs.Prelude.{◌≢◌};
 
-use io_edge::{MemShelf, MemSink, MemSource, Noise, SureNoise, SureSink, SureSource};
+use io_edge::{MemShelf, MemSink, MemSource, SureNoise, SureSink, SureSource};
 use std::alloc::Global;
 use std::test::Fail;
-use wpinq_program::{Ending, Word, wpinq};
+use trial_runs::{answer, run};
+use wpinq_program::{Ending, wpinq};
 
 const SUM: &str = "{\"op\":\"sum\",\"weights\":[\"1/2\",\"1/3\"]}\n";
 
@@ -16,64 +17,6 @@ const EMPTY_SUM_REPLY: &str = "{\"ok\":true,\"sum\":\"0\"}\n";
 
 /// So many spaces make that line the longest that there may be.
 const SPACES: usize = 1_048_551;
-
-/// Runs the top call under these words over these devices and a shelf without files: how it ends, and what was
-/// written.
-pub fn run<N: Noise>(
-    alloc: Global,
-    texts: &[&str],
-    source: MemSource,
-    sink: MemSink,
-    noise: &mut N,
-) -> Result<(Ending, String), Fail> {
-    run_with_files(alloc, texts, source, sink, noise, &mut MemShelf::new(alloc))
-}
-
-/// The same with this shelf.
-pub fn run_with_files<N: Noise>(
-    alloc: Global,
-    texts: &[&str],
-    mut source: MemSource,
-    mut sink: MemSink,
-    noise: &mut N,
-    shelf: &mut MemShelf,
-) -> Result<(Ending, String), Fail> {
-    let mut words = Vec::new(alloc);
-    for text in texts {
-        words.push(Word::new(String::from_str(alloc, text)?))?;
-    }
-    let ending = wpinq(alloc, &words, &mut source, &mut sink, noise, shelf);
-    let written = Vec::from_slice(alloc, sink.bytes())?;
-    Ok((ending, String::from_utf8(written)?))
-}
-
-/// The same for an input that is read in pieces of this length, over devices that don't fail.
-pub fn answer(
-    alloc: Global,
-    texts: &[&str],
-    input: &str,
-    piece: usize,
-) -> Result<(Ending, String), Fail>
-    requires { 1 ≤ piece }
-{
-    answer_over(alloc, texts, input, piece, &mut SureNoise::new())
-}
-
-/// The same with this noise.
-pub fn answer_over<N: Noise>(
-    alloc: Global,
-    texts: &[&str],
-    input: &str,
-    piece: usize,
-    noise: &mut N,
-) -> Result<(Ending, String), Fail>
-    requires { 1 ≤ piece }
-{
-    let bytes = Vec::from_slice(alloc, input.as_bytes())?;
-    let source = MemSource::new(bytes, piece, Vec::new(alloc));
-    let sink = MemSink::new(alloc, 10_000, 7, Vec::new(alloc))?;
-    run(alloc, texts, source, sink, noise)
-}
 
 #[test]
 fn each_line_has_its_one_reply(rt: HostRuntime) -> Result<(), Fail> {

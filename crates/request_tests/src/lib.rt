@@ -1,9 +1,7 @@
-//! Tests of reading CSV updates, and of requests and replies as lines.
+//! Tests of reading CSV updates, and of requests as lines.
 #![tactic(auto)]
 
 #[cfg(test)]
 mod csv;
-#[cfg(test)]
-mod replies;
 #[cfg(test)]
 mod requests;

@@ -1,10 +1,11 @@
 //! Tests of requests as lines: that they are read, and that the definitions say what is meant.
 
-use crate::replies::reply_text;
 use frac_core::Frac;
 use plan_model::{Plan, Step};
 use record_text::{Kind, Kinds, Name, Row, row_to_json};
-use request_text::{MAX_LINE, Memory, ReadFault, Reply, Request, Target, read_request};
+use request_text::{
+    MAX_LINE, Memory, ReadFault, Refusal, Reply, Request, Target, read_request, write_reply,
+};
 use std::alloc::Global;
 use std::test::Fail;
 
@@ -12,9 +13,17 @@ use std::test::Fail;
 fn read(alloc: Global, line: &[u8]) -> Result<Vec<u8>, Fail> {
     match read_request(alloc, line) {
         Ok(request) => shown(alloc, &request),
-        Err(ReadFault::Refused(refusal)) => reply_text(alloc, &Reply::Refused(refusal)),
+        Err(ReadFault::Refused(refusal)) => refused(alloc, refusal),
         Err(ReadFault::Memory) => Err(Fail::from(Memory)),
     }
+}
+
+// The reply that refuses a line, without its LF.
+fn refused(alloc: Global, refusal: Refusal) -> Result<Vec<u8>, Fail> {
+    let mut line = Vec::new(alloc);
+    write_reply(alloc, &Reply::Refused(refusal), &mut line)?;
+    line.pop();
+    Ok(line)
 }
 
 fn shown(alloc: Global, request: &Request) -> Result<Vec<u8>, Fail> {

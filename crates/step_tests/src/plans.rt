@@ -1,8 +1,8 @@
 //! Sessions with plans: lines in one run, each with its reply.
 
-use crate::runs::answer;
-use crate::sources::{converse, numbered, repeated};
+use crate::sessions::converse;
 use std::test::Fail;
+use trial_runs::{answer, numbered, repeated};
 
 #[test]
 fn plans_filter_and_select_and_follow_their_sources(rt: HostRuntime) -> Result<(), Fail> {

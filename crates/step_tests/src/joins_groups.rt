@@ -1,6 +1,6 @@
 //! Sessions with joins and groups: lines in one run, each with its reply.
 
-use crate::sources::converse;
+use crate::sessions::converse;
 use std::test::Fail;
 
 #[test]

@@ -1,6 +1,6 @@
 //! Sessions with many, shave and set steps: lines in one run, each with its reply.
 
-use crate::sources::converse;
+use crate::sessions::converse;
 use std::alloc::{AllocError, Global};
 use std::test::Fail;
 

@@ -11,7 +11,7 @@ use std::alloc::Global;
 use std::test::Fail;
 
 /// The line of a reply, without its LF.
-pub fn reply_text(alloc: Global, reply: &Reply) -> Result<Vec<u8>, Fail> {
+fn reply_text(alloc: Global, reply: &Reply) -> Result<Vec<u8>, Fail> {
     let mut line = Vec::new(alloc);
     write_reply(alloc, reply, &mut line)?;
     match line.pop() {

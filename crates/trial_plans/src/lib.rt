@@ -1,8 +1,11 @@
-//! Texts of plans and of their parts.
+//! Texts of plans and of their parts, for tests.
+#![tactic(auto)]
+
 use plan_model::Plan;
 use plan_reader::read_plan;
 use serde_json::Value;
-use std::alloc::{AllocError, Global};
+pub use std::alloc::AllocError as Memory;
+use std::alloc::Global;
 use std::test::Fail;
 
 /// The plan that a text denotes.
@@ -12,18 +15,18 @@ pub fn plan(alloc: Global, text: &str) -> Result<Plan, Fail> {
 }
 
 /// The text of a plan of a source and this step.
-pub fn with_step(alloc: Global, step: &str) -> Result<String, AllocError> {
+pub fn with_step(alloc: Global, step: &str) -> Result<String, Memory> {
     format!(in alloc; "{{\"format\":1,\"steps\":[{{\"do\":\"source\",\"name\":\"a\"}},{step}]}}")
 }
 
 /// The text of a plan of a source and its rows that pass this test.
-pub fn with_test(alloc: Global, test: &str) -> Result<String, AllocError> {
+pub fn with_test(alloc: Global, test: &str) -> Result<String, Memory> {
     let step = format!(in alloc; "{{\"do\":\"where\",\"of\":0,\"if\":{test}}}")?;
     with_step(alloc, step.as_str())
 }
 
 /// A text so often, with commas between.
-pub fn listed(alloc: Global, text: &str, times: usize) -> Result<String, AllocError> {
+pub fn listed(alloc: Global, text: &str, times: usize) -> Result<String, Memory> {
     let mut list = String::from_str(alloc, text)?;
     for _ in 1..times {
         list.push(',')?;
@@ -33,7 +36,7 @@ pub fn listed(alloc: Global, text: &str, times: usize) -> Result<String, AllocEr
 }
 
 /// So many negations of an expression.
-pub fn negated(alloc: Global, times: usize, expr: &str) -> Result<String, AllocError> {
+pub fn negated(alloc: Global, times: usize, expr: &str) -> Result<String, Memory> {
     let mut text = String::from_str(alloc, expr)?;
     for _ in 0..times {
         text = format!(in alloc; "{{\"call\":\"neg\",\"args\":[{text}]}}")?;
@@ -42,12 +45,12 @@ pub fn negated(alloc: Global, times: usize, expr: &str) -> Result<String, AllocE
 }
 
 /// The sum of two expressions.
-pub fn added(alloc: Global, left: &str, right: &str) -> Result<String, AllocError> {
+pub fn added(alloc: Global, left: &str, right: &str) -> Result<String, Memory> {
     format!(in alloc; "{{\"call\":\"add\",\"args\":[{left},{right}]}}")
 }
 
 /// An expression so deep, each of whose sums has two such arguments: 1, 3, 7, .. nodes.
-pub fn tree(alloc: Global, depth: usize) -> Result<String, AllocError> {
+pub fn tree(alloc: Global, depth: usize) -> Result<String, Memory> {
     let mut text = String::from_str(alloc, "{\"col\":0}")?;
     for _ in 1..depth {
         text = added(alloc, text.as_str(), text.as_str())?;

@@ -1,10 +1,10 @@
 //! Tests of `plan_reader`.
-use crate::texts::{added, listed, negated, plan, tree, with_step, with_test};
 use plan_model::Plan;
 use plan_reader::{Field, Limit, PlanText, plan_to_json, read_plan};
 use serde_json::Value;
 use std::alloc::{AllocError, Global};
 use std::test::Fail;
+use trial_plans::{added, listed, negated, plan, tree, with_step, with_test};
 
 // Why a text is no plan, or nothing where it is one.
 fn fault(alloc: Global, text: &str) -> Result<Option<PlanText>, Fail> {

@@ -1,33 +1,12 @@
 //! Sessions with sources: lines in one run, each with its reply.
 
-use crate::runs::{answer, answer_over};
 use io_edge::{Noise, SureNoise};
 use std::alloc::Global;
 use std::process::Abort;
 use std::test::Fail;
-use wpinq_program::Ending;
+use trial_runs::{answer, numbered, repeated};
 
-/// Two sources with a few rows.
-const OPENING: [(&str, &str); 4] = [
-    (
-        r#"{"op":"source","name":"a","kinds":["int"],"signed":false,"budget":300000}"#,
-        r#"{"ok":true}"#,
-    ),
-    (
-        r#"{"op":"source","name":"b","kinds":["int"],"signed":false,"budget":300000}"#,
-        r#"{"ok":true}"#,
-    ),
-    (
-        r#"{"op":"update","source":"a","csv":"1,3/4\n2,2\n3,1\n"}"#,
-        r#"{"ok":true,"records":3}"#,
-    ),
-    (
-        r#"{"op":"update","source":"b","csv":"1,3\n4,2\n"}"#,
-        r#"{"ok":true,"records":2}"#,
-    ),
-];
-
-/// Answers the opening's lines and then these in one run under the words, and wants each line's reply.
+/// Wants the replies of these rows, over noise that doesn't fail.
 pub fn converse(
     rt: &impl Abort,
     alloc: Global,
@@ -37,7 +16,7 @@ pub fn converse(
     converse_over(rt, alloc, words, rows, &mut SureNoise::new())
 }
 
-/// The same with this noise.
+/// The same over this noise.
 pub fn converse_over<N: Noise>(
     rt: &impl Abort,
     alloc: Global,
@@ -45,18 +24,9 @@ pub fn converse_over<N: Noise>(
     rows: &[(&str, &str)],
     noise: &mut N,
 ) -> Result<(), Fail> {
-    let mut input = String::new(alloc);
-    let mut replies = String::new(alloc);
-    let lines = (OPENING.len() + rows.len()) as u64;
-    for (line, reply) in OPENING.iter().chain(rows.iter()) {
-        input.push_str(line)?;
-        input.push('\n')?;
-        replies.push_str(reply)?;
-        replies.push('\n')?;
-    }
-    let (ending, written) = answer_over(alloc, words, input.as_str(), 64, noise)?;
-    assert_eq!(rt; written.as_str(), replies.as_str());
-    assert_eq!(rt; ending, Ending { status: 0, lines });
+    let (told, wanted) = trial_runs::converse_over(alloc, words, rows, noise)?;
+    assert_eq!(rt; told.1.as_str(), wanted.1.as_str());
+    assert_eq!(rt; told.0, wanted.0);
     Ok(())
 }
 
@@ -197,26 +167,6 @@ fn a_source_may_be_signed_and_its_name_is_its_own(rt: HostRuntime) -> Result<(),
         ),
     ];
     converse(&rt, rt.alloc(), &["--curator"], &rows)
-}
-
-/// Lines with a number from 0 on between two texts.
-pub fn numbered(alloc: Global, count: u64, before: &str, after: &str) -> Result<String, Fail> {
-    let mut lines = String::new(alloc);
-    for at in 0..count {
-        let line = format!(in alloc; "{before}{at}{after}\n")?;
-        lines.push_str(line.as_str())?;
-    }
-    Ok(lines)
-}
-
-/// A line so many times.
-pub fn repeated(alloc: Global, count: u64, line: &str) -> Result<String, Fail> {
-    let mut lines = String::new(alloc);
-    for _ in 0..count {
-        lines.push_str(line)?;
-        lines.push('\n')?;
-    }
-    Ok(lines)
 }
 
 #[test]

@@ -1,0 +1,6 @@
+//! Tests of reading and writing plans: of what no contract says, that calls succeed, and that the definitions say what is
+//! meant.
+#![tactic(auto)]
+
+#[cfg(test)]
+mod reader;

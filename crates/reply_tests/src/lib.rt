@@ -1,0 +1,5 @@
+//! Tests of replies as lines.
+#![tactic(auto)]
+
+#[cfg(test)]
+mod replies;
