@@ -115,31 +115,6 @@ fn a_faulty_line_is_refused_for_its_first_fault(rt: HostRuntime) -> Result<(), F
     Ok(())
 }
 
-/// So many opening brackets, and as many closing ones.
-fn brackets(alloc: Global, depth: usize) -> Result<String, Fail> {
-    let mut line = vec![in alloc; b'['; depth]?;
-    line.extend_from_slice(&vec![in alloc; b']'; depth]?)?;
-    Ok(String::from_utf8(line)?)
-}
-
-#[test]
-fn brackets_nest_127_deep_at_most(rt: HostRuntime) -> Result<(), Fail> {
-    let rows = [
-        (
-            127,
-            "{\"field\":\"request\",\"ok\":false,\"why\":\"shape\"}\n",
-        ),
-        (128, "{\"ok\":false,\"why\":\"json\"}\n"),
-    ];
-    for (depth, reply) in rows {
-        let line = brackets(rt.alloc(), depth)?;
-        let (ending, written) = answer(rt.alloc(), &[], line.as_str(), 64)?;
-        assert_eq!(rt; written.as_str(), reply, "{depth}");
-        assert_eq!(rt; (ending.status, ending.lines), (0, 1), "{depth}");
-    }
-    Ok(())
-}
-
 #[test]
 fn the_replies_are_the_same_in_pieces_of_each_length(rt: HostRuntime) -> Result<(), Fail> {
     let input = format!(in rt.alloc(); "{SUM}{SUM}")?;
