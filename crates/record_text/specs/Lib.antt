@@ -4,6 +4,7 @@ pub mod KindLists
 pub mod Padded
 pub mod Names
 pub mod Held
+pub mod InPlace
 pub mod JsonRows
 pub mod FieldAtoms
 pub mod FieldMemory

@@ -7,6 +7,7 @@
 
 mod atom;
 mod field;
+mod in_place;
 mod kinds;
 mod laws;
 mod name;

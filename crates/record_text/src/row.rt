@@ -9,7 +9,9 @@ ghost use Rattle.record_text.specs.OrderLaws.{row_total, row_ties, row_equivalen
 
 use crate::Memory;
 use crate::atom::Atom;
+use crate::in_place::{Atoms, push_copies};
 use crate::kinds::{Kind, Kinds};
+use std::alloc::Global;
 use std::cmp::Ordering;
 use std::marker::Model;
 
@@ -17,18 +19,20 @@ use std::marker::Model;
 /// first.
 #[derive(Debug, Drop)]
 pub struct Row {
-    atoms: Vec<Atom>,
+    atoms: Atoms,
+    alloc: Global,
 }
 
 impl Model for Row {
     ghost use Rattle.std.specs.Prelude.{◌<◌, ◌≤◌, List, length};
     ghost use Rattle.record_text.specs.declared.atom.Atom.{Atom};
+    ghost use Rattle.record_text.specs.InPlace.{listed};
 
     ghost Value = { List Atom };
 
-    ghost view = { λ row. row.atoms.items };
+    ghost view = { λ row. listed row.atoms };
 
-    ghost invariant = { λ row. (0 < length row.atoms.items) × (length row.atoms.items ≤ 16) };
+    ghost invariant = { λ row. (0 < length (listed row.atoms)) × (length (listed row.atoms) ≤ 16) };
 }
 
 impl Row {
@@ -38,7 +42,11 @@ impl Row {
         requires few { length atoms.items ≤ 16 }
         ensures { result ≡ atoms.items }
     {
-        Row { atoms }
+        let alloc = *atoms.allocator();
+        Row {
+            atoms: Atoms::from_vec(atoms),
+            alloc,
+        }
     }
 
     /// How many atoms there are, 1 to 16.
@@ -47,7 +55,7 @@ impl Row {
         ensures some { 0 < result }
         ensures few { result ≤ 16 }
     {
-        self.atoms.len()
+        self.atoms().len()
     }
 
     /// The atom of a column; the first is column 0.
@@ -56,23 +64,24 @@ impl Row {
         ensures item { slice_get self.now at ≡ Some result.now }
         ensures index { (other : Atom) → slice_index_or self.now at other ≡ result.now }
     {
-        &self.atoms[at]
+        &self.atoms()[at]
     }
 
     /// Whether the atoms have these kinds, each the kind of its column, and no column is left over.
     pub fn fits(&self, kinds: Kinds) -> bool
         ensures { IsTrue result ↔ (kinds_of self.now ≡ kinds) }
     {
-        have_kinds(self.atoms.as_slice(), kinds.as_slice())
+        have_kinds(self.atoms(), kinds.as_slice())
     }
 
     /// An equal row.
     pub fn try_copy(&self) -> Result<Row, Memory>
         ensures { IfOk result (λ copy. copy ≡ self.now) }
     {
-        let mut atoms = Vec::with_capacity(*self.atoms.allocator(), self.atoms.len())?;
-        push_copies(&mut atoms, self.atoms.as_slice())?;
-        Ok(Row { atoms })
+        Ok(Row {
+            atoms: self.atoms.try_copy()?,
+            alloc: self.alloc,
+        })
     }
 
     /// The atoms of this row, and then those of the other, 16 at most in all.
@@ -80,13 +89,20 @@ impl Row {
         requires { length self.now + length other.now ≤ 16 }
         ensures { IfOk result (λ both. both ≡ self.now ++ other.now) }
     {
-        let mut atoms = Vec::with_capacity(
-            *self.atoms.allocator(),
-            self.atoms.len() + other.atoms.len(),
-        )?;
-        push_copies(&mut atoms, self.atoms.as_slice())?;
-        push_copies(&mut atoms, other.atoms.as_slice())?;
-        Ok(Row { atoms })
+        if let (Atoms::One([first]), Atoms::One([second])) = (&self.atoms, &other.atoms) {
+            return Ok(Row {
+                atoms: Atoms::Two([first.try_copy()?, second.try_copy()?]),
+                alloc: self.alloc,
+            });
+        }
+        let (front, back) = (self.atoms(), other.atoms());
+        let mut atoms = Vec::with_capacity(self.alloc, front.len() + back.len())?;
+        push_copies(&mut atoms, front)?;
+        push_copies(&mut atoms, back)?;
+        Ok(Row {
+            atoms: Atoms::shared(self.alloc, atoms)?,
+            alloc: self.alloc,
+        })
     }
 
     pub(crate) fn atoms(&self) -> &[Atom]
@@ -112,22 +128,13 @@ fn have_kinds(atoms: &[Atom], kinds: &[Kind]) -> bool
     true
 }
 
-fn push_copies(copies: &mut Vec<Atom>, atoms: &[Atom]) -> Result<(), Memory>
-    ensures { IfOk result (λ _. copies.new.items ≡ copies.old.items ++ atoms.now) }
-{
-    for atom in atoms {
-        copies.push(atom.try_copy()?)?;
-    }
-    Ok(())
-}
-
 impl PartialEq for Row {
     ghost eq = { row_eq };
 
     ghost laws = { partial_equiv_from_equiv row_equivalence };
 
     fn eq(&self, other: &Row) -> bool {
-        self.atoms == other.atoms
+        self.atoms() == other.atoms()
     }
 }
 
@@ -155,6 +162,6 @@ impl Ord for Row {
     ghost matches_eq = { row_ties };
 
     fn cmp(&self, other: &Row) -> Ordering {
-        self.atoms.cmp(&other.atoms)
+        self.atoms().cmp(other.atoms())
     }
 }

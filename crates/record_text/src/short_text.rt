@@ -1,5 +1,5 @@
 //! Texts of bounded length.
-ghost use Rattle.std.specs.Prelude.{◌≡◌, ◌↔◌, ◌<◌, ◌≤◌, length, refl, IfOk};
+ghost use Rattle.std.specs.Prelude.{◌≡◌, ◌↔◌, ◌<◌, ◌≤◌, length, refl, string_bytes, IfOk};
 ghost use Rattle.std.specs.Cmp.{partial_equiv_from_equiv, partial_order_from_agreeing_total};
 ghost use Rattle.std.specs.Cmp.Lexicographic.{nat_list_cmp_total, nat_list_eq_equiv};
 ghost use Rattle.std.specs.Ordering.{as_partial_cmp};
@@ -10,6 +10,7 @@ use crate::Memory;
 use std::alloc::Global;
 use std::cmp::Ordering;
 use std::marker::Model;
+use std::rc::Rc;
 use thiserror::Error;
 
 // The most bytes of a text.
@@ -29,7 +30,8 @@ pub enum TextFault {
 /// A text of at most 255 bytes of UTF-8, seen as its bytes. Texts are ordered by their bytes.
 #[derive(Debug, Drop)]
 pub struct ShortText {
-    text: String,
+    // Copies share it.
+    text: Rc<String>,
 }
 
 impl Model for ShortText {
@@ -37,9 +39,9 @@ impl Model for ShortText {
 
     ghost Value = { List ℕ };
 
-    ghost view = { λ t. string_bytes t.text };
+    ghost view = { λ t. string_bytes t.text.value };
 
-    ghost invariant = { λ t. length (string_bytes t.text) ≤ 255 };
+    ghost invariant = { λ t. length (string_bytes t.text.value) ≤ 255 };
 }
 
 impl ShortText {
@@ -52,7 +54,7 @@ impl ShortText {
         if text.len() > MAX_TEXT {
             return Err(TextFault::Long);
         }
-        match String::from_str(alloc, text) {
+        match shared(alloc, text) {
             Ok(text) => Ok(ShortText { text }),
             Err(_) => Err(TextFault::Memory),
         }
@@ -72,6 +74,14 @@ impl ShortText {
         let text = self.text.clone()?;
         Ok(ShortText { text })
     }
+}
+
+// A text that copies can share.
+fn shared(alloc: Global, text: &str) -> Result<Rc<String>, Memory>
+    ensures { IfOk result (λ shared. string_bytes shared.value ≡ text.now) }
+{
+    let text = String::from_str(alloc, text)?;
+    Ok(Rc::new(alloc, text)?)
 }
 
 impl PartialEq for ShortText {

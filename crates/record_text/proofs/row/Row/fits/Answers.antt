@@ -4,5 +4,5 @@ use Rattle.record_text.proofs.row.Row.fits.Goals as goal
 
 pub returns : goal.returns
 returns c =
-    rw (c.have_kinds.ensures, c.as_slice.ensures.value, c.self.view_is, c.as_slice-2.ensures)
+    rw (c.have_kinds.ensures, c.atoms.ensures.value, c.as_slice.ensures)
     (kinds_decided (kinds_of c.args.self.now) c.args.kinds)
