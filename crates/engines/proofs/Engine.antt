@@ -4,11 +4,11 @@ use Rattle.std.proofs.Common.{sym, ap, subst, ◌∙◌, inl, inr, true≢false}
 use Rattle.std.proofs.lemmas.Bool.{false_from_ne_true}
 use Rattle.ratios.specs.Ratio.{zero_ratio}
 use Rattle.datasets.specs.Dataset.{Dataset, at}
-use Rattle.datasets.specs.Entries.{Row, has_row, is_zero}
+use Rattle.datasets.specs.Entries.{AreRising, Row, has_row, is_zero}
 use Rattle.datasets.proofs.Rows.{other_if_not_is_zero, zero_if_is_zero}
 use Rattle.weighted_set.specs.declared.weighted.Change.{Change}
-use Rattle.weighted_set.specs.Changes.{IsChangeList, applied}
-use Rattle.weighted_set.specs.Held.{AllInRange, HeldRows, HoldsStep}
+use Rattle.weighted_set.specs.Changes.{IsChangeList, applied, changed_rows}
+use Rattle.weighted_set.specs.Held.{AllInRange}
 use Rattle.weighted_set.specs.Parts.{FactoredInRange, part_of}
 use Rattle.weighted_set.specs.Standing.{MayBecome, Meaning, Standing}
 use Rattle.weighted_set.specs.declared.part_op.PartOp.{Ghosts}
@@ -16,7 +16,7 @@ use Rattle.weighted_set.proofs.ChangeLists.{change_list_leads_there}
 use Rattle.engines.specs.Engines.{keyed_standing, settled_by, settled_standing}
 use Rattle.engines.specs.Products.{changes_in_range}
 use Rattle.engines.specs.Standing.{ArePartsOf, HoldParts, PutInputs}
-use Rattle.engines.specs.Staging.{AreStaged, outputs_by}
+use Rattle.engines.specs.Staging.{AreOutputChanges, outputs_by}
 use Rattle.engines.specs.Ticks.{changes_ticks, keys_ticks}
 use Rattle.engines.specs.Work.{part_work}
 use Rattle.weighted_set.specs.Parts.{StoreParts, committed_part, pending_part}
@@ -120,9 +120,10 @@ module _ {left_keys right_keys : Row → Dataset} {owner : Row → Row} {outputs
     right_same : (k : Row) → has_row touched k ≡ false → committed_part new_right k ≡ pending_part new_right k
     right_same k n = put.right_committed k ∙ sym (m.stands.settled.right_same k) ∙ sym (put.untouched k n).1
 
-    pub engine_step : (es : HeldRows) (keys : List Row) → keys ≡ touched → AreStaged owner (outputs_by outputs (committed_part new_left) (committed_part new_right)) (outputs_by outputs (pending_part new_left) (pending_part new_right)) keys es → HoldsStep es (means.output A B) (means.output C D)
-    engine_step es keys same staged =
-        staged_step owner (outputs_by outputs (committed_part new_left) (committed_part new_right)) (outputs_by outputs (pending_part new_left) (pending_part new_right)) keys es (means.output A B) (means.output C D) staged
+    pub engine_step : (cs : List Change) (keys : List Row) → keys ≡ touched → AreOutputChanges owner (outputs_by outputs (committed_part new_left) (committed_part new_right)) (outputs_by outputs (pending_part new_left) (pending_part new_right)) keys cs → AreRising (changed_rows cs)
+        → IsChangeList cs (means.output A B) (means.output C D)
+    engine_step cs keys same staged rising =
+        staged_step owner (outputs_by outputs (committed_part new_left) (committed_part new_right)) (outputs_by outputs (pending_part new_left) (pending_part new_right)) keys cs (means.output A B) (means.output C D) staged rising
         (output_is (committed_part new_left) (committed_part new_right) A B m.takes_before held_before)
         (output_is (pending_part new_left) (pending_part new_right) C D m.takes_after held_after)
         (λ k n.

@@ -26,7 +26,6 @@ use Rattle.weighted_set.specs.Parts.{part_of}
 use Rattle.weighted_set.proofs.Parts.{at-part_of, entries_have_weights, part_of-set_at}
 use Rattle.weighted_set.proofs.Running.{entry_is, length-entries_of}
 use Rattle.weighted_set.proofs.Sets.{AllInRange-set_at}
-use Rattle.weighted_set.proofs.TouchedRows.{apart_from_all}
 use Rattle.engines.specs.Products.{with_products}
 use Rattle.engines.specs.Standing.{ArePartsOf}
 
@@ -98,13 +97,6 @@ put_more ks rising i e h is x w v product first now next p q k =
     own : (b : Bool) → (b ≡ true → k ≡ e.row) → cond b (set_at x v (now k)) (now k) ≡ cond b (set_at x (ratio_mul w (weight_in (entries_of ks) k)) (now k)) (now k)
     own true same = ap (λ z. set_at x z (now k)) (product ∙ ap (ratio_mul w) (entry_weight ks rising i e h is) ∙ ap (λ y. ratio_mul w (weight_in (entries_of ks) y)) (sym (same refl)))
     own false same = refl
-
--- keys that are not noted keep their part
-pub untouched_more : (old new : List Row) (key : Row) → new ≡ old ++ key ∷ [] → (x : Row) (w : Ratio) (now next : Row → Dataset) → ((k : Row) → next k ≡ cond (same_row k key) (set_at x w (now k)) (now k))
-    → (k : Row) → has_row new k ≡ false → (has_row old k ≡ false) × (next k ≡ now k)
-untouched_more old new key e x w now next q k n =
-    let apart = apart_from_all old key k (ap (λ ts. has_row ts k) (sym e) ∙ n) in
-    (apart.0, q k ∙ ap (λ b. cond b (set_at x w (now k)) (now k)) apart.1)
 
 -- ---- parts
 -- a row isn't in the part of a key that it doesn't belong to

@@ -1,27 +1,22 @@
 -- Which keys are noted.
-use Rattle.std.specs.Prelude.{◌≡◌, ℕ, ◌+◌, ◌<◌, ◌||◌, List, [], ◌∷◌, ◌++◌, length, take, refl}
+use Rattle.std.specs.Prelude.{◌≡◌, ℕ, ◌+◌, ◌<◌, false, cond, ◌||◌, List, [], ◌∷◌, ◌++◌, length, take}
 use Rattle.std.proofs.Common.{ap, get_or, sym, ◌∙◌}
+use Rattle.std.proofs.lemmas.Bool.{or_parts}
 use Rattle.std.proofs.lemmas.Grind.{flat_map-append}
 use Rattle.std.proofs.lemmas.List.{append-nil, append_assoc}
 use Rattle.std.proofs.lemmas.List.Folds.{list_any-append}
 use Rattle.datasets.specs.Dataset.{Dataset, rows}
-use Rattle.datasets.specs.Entries.{Row, has_row, rows_of, same_row}
-use Rattle.weighted_set.specs.Changes.{entries_of}
+use Rattle.datasets.specs.Entries.{Row, has_row, same_row}
 use Rattle.weighted_set.specs.declared.weighted.Change.{Change}
-use Rattle.weighted_set.specs.declared.weighted.Weighted.{Weighted}
 use Rattle.engines.specs.Touched.{changed_keys}
 use Rattle.engines.proofs.Pending.{take_item}
 
--- the rows of listed entries, and of one more
-listed_more : (es : List Weighted) (e : Weighted) → rows_of (entries_of (es ++ e ∷ [])) ≡ rows_of (entries_of es) ++ e.row ∷ []
-listed_more [] e = refl
-listed_more (d ∷ es) e = ap (λ xs. d.row ∷ xs) (listed_more es e)
-
-pub noted_more : (old now new : List Row) (keys : List Weighted) (i : ℕ) (e : Weighted) → i < length keys → e ≡ get_or keys i e
-    → now ≡ old ++ rows_of (entries_of (take i keys)) → new ≡ now ++ e.row ∷ [] → new ≡ old ++ rows_of (entries_of (take (i + 1) keys))
-noted_more old now new keys i e h is before put =
-    put ∙ ap (λ xs. xs ++ e.row ∷ []) before ∙ append_assoc old (rows_of (entries_of (take i keys))) (e.row ∷ [])
-    ∙ ap (λ xs. old ++ xs) (sym (ap (λ es. rows_of (entries_of es)) (take_item keys i e h is) ∙ listed_more (take i keys) e))
+-- where the keys of a row are noted, each key that is not noted keeps its part
+pub untouched_put : (old new keys : List Row) → new ≡ old ++ keys → (changed first next : Row → Dataset) → ((k : Row) → next k ≡ cond (has_row keys k) (changed k) (first k))
+    → (k : Row) → has_row new k ≡ false → (has_row old k ≡ false) × (next k ≡ first k)
+untouched_put old new keys noted changed first next put k n =
+    let apart = or_parts (has_row old k) (has_row keys k) (sym (ap (λ ks. has_row ks k) noted ∙ list_any-append (same_row k) old keys) ∙ n) in
+    (apart.0, put k ∙ ap (λ b. cond b (changed k) (first k)) apart.1)
 
 -- the keys of changed rows, and of those of one change more
 pub changed_more : (keys : Row → Dataset) (old now new : List Row) (changes : List Change) (i : ℕ) (c : Change) → i < length changes → c ≡ get_or changes i c

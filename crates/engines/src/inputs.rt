@@ -27,29 +27,17 @@ pub fn check_range(changes: &[Change])
     }
 }
 
-// Notes a key.
-fn note_key(key: &Row, touched: &mut Vec<Row>) -> Result<(), Memory>
-    ensures { OnOk result (touched.new.items ≡ touched.old.items ++ key.now ∷ []) }
-{
-    let note = key.try_copy()?;
-    touched.push(note)?;
-    Ok(())
-}
-
-// Makes the new weight of a change pending at each of these keys, times the key's factor, and notes them.
-// `Range` says that a product is out of range.
+// Makes the new weight of a change pending at each of these keys, times the key's factor. `Range` says that a
+// product is out of range.
 fn put_at_keys<L: Ledger>(
     store: &mut PartStore,
     change: &Change,
     keys: &[Weighted],
-    touched: &mut Vec<Row>,
     steps: &mut Steps<L>,
 ) -> Result<(), OpFault>
     requires { AreRising (rows_of (entries_of keys.now)) }
     ensures committed { (k : Row) → committed_part store.new k ≡ committed_part store.old k }
     ensures pending { OnOk result ((k : Row) → pending_part store.new k ≡ with_products change.now.row change.now.new (entries_of keys.now) (pending_part store.old) k) }
-    ensures touched { OnOk result ((k : Row) → has_row touched.new.items k ≡ false → (has_row touched.old.items k ≡ false) × (pending_part store.new k ≡ pending_part store.old k)) }
-    ensures noted { OnOk result (touched.new.items ≡ touched.old.items ++ rows_of (entries_of keys.now)) }
     ensures fits { OnOk result (products_in_range change.now.new (entries_of keys.now) ≡ true) }
     ensures range { IfErr result (λ e. e ≡ fault.Range → products_in_range change.now.new (entries_of keys.now) ≡ false) }
     ensures ticks { steps.new ≤ steps.old + length keys.now }
@@ -59,7 +47,16 @@ fn put_at_keys<L: Ledger>(
             return Err(OpFault::Range);
         };
         store.put_pending(&key.row, &change.row, weight, steps)?;
-        note_key(&key.row, touched)?;
+    }
+    Ok(())
+}
+
+// Moves the keys of a list behind the noted ones.
+fn note_keys(keys: &mut Vec<Weighted>, touched: &mut Vec<Row>) -> Result<(), Memory>
+    ensures { OnOk result (touched.new.items ≡ touched.old.items ++ rows_of (entries_of keys.old.items)) }
+{
+    for key in keys.drain(..) {
+        touched.push(key.row)?;
     }
     Ok(())
 }
@@ -85,7 +82,8 @@ fn put_change<O: PartOp, L: Ledger>(
     ensures ticks { steps.new ≤ steps.old + size (O.keys op.now side change.now.row) }
 {
     op.touch(side, &change.row, keys)?;
-    put_at_keys(store, change, keys.as_slice(), touched, steps)?;
+    put_at_keys(store, change, keys.as_slice(), steps)?;
+    note_keys(keys, touched)?;
     Ok(())
 }
 

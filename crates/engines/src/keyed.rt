@@ -17,7 +17,7 @@ use record_text::Row;
 use std::alloc::Global;
 use std::sync::ledger::Ledger;
 use steps::Steps;
-use weighted_set::{Change, OpFault, Operator, PartOp, PartStore, Side, changes_in};
+use weighted_set::{Change, OpFault, Operator, PartOp, PartStore, Side};
 
 /// An operator with the parts of its inputs by key. Only the outputs of keys whose part changes are worked
 /// out anew.
@@ -161,7 +161,7 @@ pub(crate) fn stage<O: PartOp, L: Ledger>(
     check_range(left);
     check_range(right);
     let touched = put_inputs(alloc, op, left_store, right_store, left, right, steps)?;
-    let table = stage_keys(
+    let changes = stage_keys(
         alloc,
         op,
         left_store,
@@ -169,6 +169,5 @@ pub(crate) fn stage<O: PartOp, L: Ledger>(
         touched.as_slice(),
         steps,
     )?;
-    let changes = changes_in(alloc, table)?;
     Ok(changes)
 }

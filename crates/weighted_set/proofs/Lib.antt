@@ -11,3 +11,4 @@ pub mod Merged
 pub mod WalkedDistance
 pub mod PartStores
 pub mod AllChanges
+pub mod WalkedChanges

@@ -17,22 +17,31 @@ use Rattle.datasets.specs.Entries.{Row, Entries}
 use Rattle.weighted_set.specs.Compared.{compared_entries}
 use Rattle.weighted_set.specs.declared.compared.Compared.{Compared}
 use Rattle.weighted_set.specs.Sizes.{checked_distance}
-use Rattle.weighted_set.proofs.Merged.{gap_at, gaps, walk_all}
+use Rattle.weighted_set.specs.Merging.{merged}
+use Rattle.weighted_set.proofs.Merged.{given_at, walk_all}
 use Rattle.weighted_set.proofs.WeightSets.{and_nested, sum_from, sum_goes_on, sum_stops}
 
 -- ---- the distance by the walk
+-- how far two weights of a row are apart
+abbrev gap : Row → Ratio → Ratio → Ratio
+gap x v w = ratio_sub v w
+
+-- the differences at the rows of two lists
+abbrev pub gaps : Entries → Entries → List Ratio
+gaps es fs = merged gap es fs
+
 -- the sum of s and the absolute differences, or nothing where one, or a sum on the way, is out of range
 abbrev pub distance_from : Ratio → List Ratio → Option Ratio
 distance_from s gs = cond (list_all in_range gs) (sum_from s (map ratio_abs gs)) None
 
 pub distance_walked : (A B : Dataset) → checked_distance A B ≡ distance_from zero_ratio (gaps A.entries B.entries)
 distance_walked A B =
-    let f = gap_at A.entries B.entries in
+    let f = given_at gap A.entries B.entries in
     let xs = rows_of_either A B in
     let sums : List Ratio → Bool = λ ws. list_all in_range (running_sums_after zero_ratio ws) in
     ap (λ ws. cond (list_all in_range (map f xs) && sums ws) (Some (fold ratio_add zero_ratio ws)) None) (sym (map-map ratio_abs f xs))
     ∙ and_nested (list_all in_range (map f xs)) (sums (map ratio_abs (map f xs))) (Some (fold ratio_add zero_ratio (map ratio_abs (map f xs))))
-    ∙ ap (distance_from zero_ratio) (walk_all A.entries B.entries A.rising B.rising)
+    ∙ ap (distance_from zero_ratio) (walk_all gap A.entries B.entries A.rising B.rising)
 
 pub difference_stops : (s g : Ratio) (gs : List Ratio) → checked g ≡ None → distance_from s (g ∷ gs) ≡ None
 difference_stops s g gs e = ap (λ b. cond (b && list_all in_range gs) (sum_from s (map ratio_abs (g ∷ gs))) None) (in_range-out g (checked_none g e))

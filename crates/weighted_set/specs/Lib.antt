@@ -9,3 +9,4 @@ pub mod Laws
 pub mod Sizes
 pub mod Sources
 pub mod Compared
+pub mod Merging

@@ -6,6 +6,7 @@
 #![tactic(auto)]
 
 mod adding;
+mod changed;
 mod compared;
 mod held;
 mod laws;
@@ -19,8 +20,9 @@ mod touched;
 mod weighted;
 mod wset;
 
-pub use adding::{AddFault, changes_in};
-pub use held::{Held, View, held_at, put as put_held};
+pub use adding::AddFault;
+pub use changed::push_changes;
+pub use held::View;
 pub use laws::law_changes;
 pub use operator::Operator;
 pub use part_op::{OpFault, PartOp, Side};

@@ -2,9 +2,8 @@ use Rattle.std.proofs.Common.{arith, sym, ◌∙◌}
 use Rattle.ratios.specs.Ratio.{ratio_mul}
 use Rattle.ratios.proofs.Range.{checked_none, checked_some, in_range-out}
 use Rattle.weighted_set.specs.Parts.{pending_part}
-use Rattle.engines.proofs.Pending.{put_more, untouched_more}
+use Rattle.engines.proofs.Pending.{put_more}
 use Rattle.engines.proofs.Products.{product_out, products_more}
-use Rattle.engines.proofs.Touched.{noted_more}
 use Rattle.engines.proofs.inputs.put_at_keys.Goals as goal
 
 pub loop-key-preserved : goal.loop-key-preserved
@@ -18,11 +17,6 @@ loop-key-preserved g c =
     record {
       committed = λ k. put.committed k ∙ inv.committed k;
       pending = put_more c.args.keys.now c.requires c.loop-key.key-index key c.loop-key-test.true c.key-item.is change.row change.new weight product.1 (pending_part c.args.store.now) (pending_part c.loop-key.store) (pending_part c.put_pending.new.self) inv.pending put.ok;
-      touched = λ k n.
-          let more = untouched_more c.loop-key.touched.items c.note_key.new.touched.items key.row c.in_ok-note_key.ensures change.row weight (pending_part c.loop-key.store) (pending_part c.put_pending.new.self) put.ok k n in
-          let before = inv.touched k more.0 in
-          (before.0, more.1 ∙ before.1);
-      noted = noted_more c.args.touched.now.items c.loop-key.touched.items c.note_key.new.touched.items c.args.keys.now c.loop-key.key-index key c.loop-key-test.true c.key-item.is inv.noted c.in_ok-note_key.ensures;
       fits = products_more change.new c.args.keys.now c.loop-key.key-index key c.loop-key-test.true c.key-item.is inv.fits product.0;
       ticks = let before = inv.ticks in let here = put.ticks in omega (arith, before, here);
     }

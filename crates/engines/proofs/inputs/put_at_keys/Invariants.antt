@@ -1,4 +1,4 @@
-use Rattle.std.proofs.Common.{◌≡◌, ◌+◌, ◌≤◌, ◌++◌, false, true, cond, take}
+use Rattle.std.proofs.Common.{◌≡◌, ◌+◌, ◌≤◌, true, cond, take}
 use Rattle.ratios.specs.Ratio.{ratio_mul}
 use Rattle.datasets.specs.Dataset.{set_at}
 use Rattle.datasets.specs.Entries.{Row, has_row, rows_of, weight_in}
@@ -11,8 +11,6 @@ abbrev pub invariant-loop-key : goal.invariant-loop-key
 invariant-loop-key g l = record {
   committed : (k : Row) → committed_part l.store k ≡ committed_part l.fn.store k;
   pending : (k : Row) → pending_part l.store k ≡ cond (has_row (rows_of (entries_of (take l.key-index l.keys))) k) (set_at l.change.row (ratio_mul l.change.new (weight_in (entries_of l.keys) k)) (pending_part l.fn.store k)) (pending_part l.fn.store k);
-  touched : (k : Row) → has_row l.touched.items k ≡ false → (has_row l.fn.touched.items k ≡ false) × (pending_part l.store k ≡ pending_part l.fn.store k);
-  noted : l.touched.items ≡ l.fn.touched.items ++ rows_of (entries_of (take l.key-index l.keys));
   fits : products_in_range l.change.new (entries_of (take l.key-index l.keys)) ≡ true;
   ticks : l.steps ≤ l.fn.steps + l.key-index;
 }

@@ -1,11 +1,14 @@
 use Rattle.std.proofs.Common.{◌++◌, ap, arith, length, subst, sym, ◌∙◌}
 use Rattle.weighted_set.proofs.Running.{length-entries_of}
 use Rattle.std.proofs.lemmas.Result.{err_from_is_err_and}
-use Rattle.datasets.specs.Entries.{AreRising, rows_of}
+use Rattle.ratios.specs.Ratio.{ratio_mul}
+use Rattle.datasets.specs.Dataset.{set_at}
+use Rattle.datasets.specs.Entries.{AreRising, rows_of, weight_in}
 use Rattle.weighted_set.specs.Changes.{entries_of}
 use Rattle.weighted_set.specs.Parts.{pending_part}
-use Rattle.engines.specs.Products.{products_in_range}
+use Rattle.engines.specs.Products.{products_in_range, with_products}
 use Rattle.engines.proofs.Pending.{entries_of_slice, parts_more}
+use Rattle.engines.proofs.Touched.{untouched_put}
 use Rattle.engines.proofs.inputs.put_change.Goals as goal
 
 pub put_at_keys-requires : goal.put_at_keys-requires
@@ -20,11 +23,16 @@ returns-clause-pending g c =
     parts_more (g.O.PartOp.keys op c.args.side) change.row change.new (entries_of c.as_slice.result.now)
     (entries_of_slice c.as_slice.result.now c.touch.new.into.items (g.O.PartOp.keys op c.args.side change.row) c.as_slice.ensures.value c.in_ok-touch.ensures.ok) (pending_part c.args.store.now) (pending_part c.put_at_keys.new.store) c.in_ok-put_at_keys.ensures.pending
 
+pub returns-clause-touched : goal.returns-clause-touched
+returns-clause-touched g c k n =
+    let change = c.args.change.now in
+    let listed = entries_of c.touch.new.into.items in
+    untouched_put c.args.touched.now.items c.note_keys.new.touched.items (rows_of listed) c.in_ok-note_keys.ensures
+    (λ k. set_at change.row (ratio_mul change.new (weight_in listed k)) (pending_part c.args.store.now k)) (pending_part c.args.store.now) (pending_part c.put_at_keys.new.store)
+    (λ k. c.in_ok-put_at_keys.ensures.pending k ∙ ap (λ es. with_products change.row change.new es (pending_part c.args.store.now) k) (ap entries_of c.as_slice.ensures.value)) k n
+
 pub returns-clause-noted : goal.returns-clause-noted
-returns-clause-noted g c =
-    let K = g.O.PartOp.keys c.args.op.now c.args.side c.args.change.now.row in
-    c.in_ok-put_at_keys.ensures.noted
-    ∙ ap (λ es. c.args.touched.now.items ++ rows_of es) (entries_of_slice c.as_slice.result.now c.touch.new.into.items K c.as_slice.ensures.value c.in_ok-touch.ensures.ok)
+returns-clause-noted g c = c.in_ok-note_keys.ensures ∙ ap (λ es. c.args.touched.now.items ++ rows_of es) c.in_ok-touch.ensures.ok
 
 pub returns-clause-fits : goal.returns-clause-fits
 returns-clause-fits g c =

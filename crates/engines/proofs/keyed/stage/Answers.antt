@@ -38,21 +38,19 @@ returns-in_err-touched-clause-range g c =
     let p = err_from_is_err_and c.from_residual.result c.from_residual.ensures.1 in
     rw (p.1, p.2) (λ e A B C D m. misfits_put (laws g c.args.op.now) A B C D m (c.check_range.ensures A m.left_in_range) (c.check_range-2.ensures B m.right_in_range) (c.in_err-touched.ensures.range e))
 
-pub returns-in_err-table-clause-range : goal.returns-in_err-table-clause-range
-returns-in_err-table-clause-range g c =
-    let p = err_from_is_err_and c.from_residual-in_err-table.result c.from_residual-in_err-table.ensures.1 in
+pub returns-in_err-changes-clause-range : goal.returns-in_err-changes-clause-range
+returns-in_err-changes-clause-range g c =
+    let p = err_from_is_err_and c.from_residual-in_err-changes.result c.from_residual-in_err-changes.ensures.1 in
     rw (p.1, p.2) (λ e A B C D m.
     misfits_after (laws g c.args.op.now) c.in_ok-touched.ensures.put A B C D m (c.check_range.ensures A m.left_in_range) (c.check_range-2.ensures B m.right_in_range)
-    (c.in_err-table.ensures.range e (fit_before (laws g c.args.op.now) c.in_ok-touched.ensures.put A B C D m)))
+    (c.in_err-changes.ensures.range e (fit_before (laws g c.args.op.now) c.in_ok-touched.ensures.put A B C D m)))
 
 pub returns-clause-ok : goal.returns-clause-ok
 returns-clause-ok g c A B C D m =
-    let output = g.O.PartOp.output c.args.op.now in
-    let step = engine_step (laws g c.args.op.now) c.in_ok-touched.ensures.put A B C D m c.in_ok-table.table.entries c.as_slice.result.now c.as_slice.ensures.value c.in_ok-table.ensures.staged in
     record {
-      changes = c.in_ok-changes.ensures (output A B) (output C D) step;
+      changes = engine_step (laws g c.args.op.now) c.in_ok-touched.ensures.put A B C D m c.in_ok-changes.changes.items c.as_slice.result.now c.as_slice.ensures.value c.in_ok-changes.ensures.staged c.in_ok-changes.ensures.rising;
       fits =
-          fits_after (laws g c.args.op.now) c.in_ok-touched.ensures.put A B C D m (c.check_range.ensures A m.left_in_range) (c.check_range-2.ensures B m.right_in_range) c.as_slice.result.now c.as_slice.ensures.value c.in_ok-table.ensures.fits;
+          fits_after (laws g c.args.op.now) c.in_ok-touched.ensures.put A B C D m (c.check_range.ensures A m.left_in_range) (c.check_range-2.ensures B m.right_in_range) c.as_slice.result.now c.as_slice.ensures.value c.in_ok-changes.ensures.fits;
       pending = held_after (laws g c.args.op.now) c.in_ok-touched.ensures.put A B C D m;
     }
 
@@ -61,10 +59,6 @@ pub returns-in_err-touched-clause-work : goal.returns-in_err-touched-clause-work
 returns-in_err-touched-clause-work g c A B C D m =
     let keys = g.O.PartOp.keys c.args.op.now in
     puts-within_work (keys Left) (keys Right) c.args.left.now c.args.right.now A B C D m.left_changes m.right_changes _ _ c.put_inputs.ensures.ticks
-
-pub returns-in_err-table-clause-work : goal.returns-in_err-table-clause-work
-returns-in_err-table-clause-work g c A B C D m =
-    ticks_after (laws g c.args.op.now) c.in_ok-touched.ensures.put A B C D m c.as_slice.result.now c.as_slice.ensures.value _ _ _ c.put_inputs.ensures.ticks c.stage_keys.ensures.ticks
 
 pub returns-in_err-changes-clause-work : goal.returns-in_err-changes-clause-work
 returns-in_err-changes-clause-work g c A B C D m =

@@ -1,7 +1,7 @@
 use Rattle.std.proofs.Common.{◌≡◌, ◌∙◌, ap, arith, true, take, sym, subst}
 use Rattle.std.specs.Prelude.{List}
 use Rattle.datasets.specs.Entries.{Row, has_row}
-use Rattle.engines.specs.Staging.{AreStaged, outputs_by}
+use Rattle.engines.specs.Staging.{AreOutputChanges, outputs_by}
 use Rattle.weighted_set.specs.Parts.{committed_part, pending_part}
 use Rattle.std.proofs.lemmas.List.{take_all}
 use Rattle.std.proofs.lemmas.List.Sums.{sum_by-take-le, sum_by_more, sum_by_more_le}
@@ -18,7 +18,7 @@ loop-key-preserved g c =
     let keys = c.args.keys.now in
     let o = g.O.PartOp in
     let more = take_item keys c.loop-key.key-index c.key-item.result c.loop-key-test.true c.key-item.is in
-    let P : List Row → Type 0 = λ done. AreStaged (o.owner op) (outputs_by (o.outputs op) (committed_part left) (committed_part right)) (outputs_by (o.outputs op) (pending_part left) (pending_part right)) done c.stage_key.new.table.entries in
+    let P : List Row → Type 0 = λ done. AreOutputChanges (o.owner op) (outputs_by (o.outputs op) (committed_part left) (committed_part right)) (outputs_by (o.outputs op) (pending_part left) (pending_part right)) done c.stage_key.new.changes.items in
     record {
       staged = subst P (sym more) (c.in_ok-stage_key.ensures.staged _ c.loop-key.invariant.staged);
       fits = λ k h. each_more (λ k. o.part_fits op k (pending_part left k) (pending_part right k) ≡ true) (take c.loop-key.key-index keys) c.key-item.result c.loop-key.invariant.fits c.in_ok-stage_key.ensures.fits k (ap (λ ks. has_row ks k) (sym more) ∙ h);
@@ -54,3 +54,15 @@ returns-clause-ticks g c =
     let before = c.loop-key.invariant.ticks in
     let rest = sum_by-take-le (key_ticks c.args.left.now c.args.right.now) c.args.keys.now c.loop-key.key-index in
     omega (arith, before, rest)
+
+pub returns-clause-staged : goal.returns-clause-staged
+returns-clause-staged g c =
+    let o = g.O.PartOp in
+    let op = c.args.op.now in
+    let before = outputs_by (o.outputs op) (committed_part c.args.left.now) (committed_part c.args.right.now) in
+    let after = outputs_by (o.outputs op) (pending_part c.args.left.now) (pending_part c.args.right.now) in
+    subst (λ done. AreOutputChanges (o.owner op) before after done c.sort_changes.new.changes.items) (take_all c.loop-key.key-index c.args.keys.now c.loop-key-test.false)
+    (c.sort_changes.ensures (o.owner op) before after (take c.loop-key.key-index c.args.keys.now) c.loop-key.invariant.staged).0
+
+pub returns-clause-rising : goal.returns-clause-rising
+returns-clause-rising g c = (c.sort_changes.ensures _ _ _ _ c.loop-key.invariant.staged).1

@@ -2,8 +2,7 @@ use Rattle.std.proofs.Common.{ap, ap₂, sym, ◌∙◌}
 use Rattle.std.specs.Ordering.{match_ordering}
 use Rattle.ratios.specs.Range.{checked}
 use Rattle.ratios.specs.Ratio.{ratio_add, zero_ratio}
-use Rattle.weighted_set.proofs.Merged.{gaps}
-use Rattle.weighted_set.proofs.WalkedDistance.{ahead, distance_from, distance_walked, taken_off, walk_goes_on}
+use Rattle.weighted_set.proofs.WalkedDistance.{ahead, distance_from, distance_walked, gaps, taken_off, walk_goes_on}
 use Rattle.weighted_set.proofs.WeightSets.{table_seen}
 use Rattle.weighted_set.proofs.wset.WSet.distance.Goals as goal
 

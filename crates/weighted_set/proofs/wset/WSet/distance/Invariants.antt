@@ -1,7 +1,6 @@
 use Rattle.std.proofs.Common.{◌≡◌, ◌+◌, length}
 use Rattle.weighted_set.specs.Sizes.{checked_distance}
-use Rattle.weighted_set.proofs.Merged.{gaps}
-use Rattle.weighted_set.proofs.WalkedDistance.{ahead, distance_from}
+use Rattle.weighted_set.proofs.WalkedDistance.{ahead, distance_from, gaps}
 use Rattle.weighted_set.proofs.wset.WSet.distance.Given as goal
 
 abbrev pub invariant-loop-lower : goal.invariant-loop-lower
