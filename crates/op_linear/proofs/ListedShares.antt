@@ -12,7 +12,7 @@ use Rattle.datasets.specs.Dataset.{Dataset}
 use Rattle.datasets.specs.Entries.{AreRising, NoneZero, Row, rows_of, same_row, weight_in}
 use Rattle.datasets.proofs.Equality.{same_weights}
 use Rattle.operators.specs.Operators.{Giving, divisor}
-use Rattle.op_linear.specs.Many.{shares}
+use Rattle.operators.specs.Keys.{shares}
 use Rattle.op_linear.specs.ManyLaws.{at-shares}
 use Rattle.op_linear.specs.Shares.{AreAboveZero, RowSums, divided, given, sum_at}
 use Rattle.op_linear.proofs.Quotients.{ratio-above_zero}

@@ -1,14 +1,13 @@
 -- Filter: the rows that pass a test.
-use Rattle.std.specs.Prelude.{if◌then◌else◌, List}
-use Rattle.ratios.specs.Ratio.{one_ratio}
+use Rattle.std.specs.Prelude.{List}
 use Rattle.record_text.specs.declared.kinds.Kind.{Kind}
 use Rattle.datasets.specs.Dataset.{Dataset, empty}
 use Rattle.datasets.specs.Entries.{Row}
+use Rattle.operators.specs.Keys.{passing_key}
 use Rattle.plan_model.specs.Evaluation.{passes}
 use Rattle.plan_model.specs.declared.expr.Expr.{Expr}
 use Rattle.weighted_set.specs.declared.part_op.Side.{Side}
 use Rattle.weighted_set.specs.declared.part_op.Side.TheVariants.{Left, Right}
-use Rattle.op_parts.specs.OneRow.{one_row}
 
 -- a filter: its test, and the columns of the rows that it takes
 pub record FilterParts : Type 0 where
@@ -17,5 +16,5 @@ pub record FilterParts : Type 0 where
 
 -- a row on the left that passes is its own key; the right has no keys
 abbrev pub filter_keys : FilterParts → Side → Row → Dataset
-filter_keys op Left x = if passes op.test x then one_row x one_ratio else empty
+filter_keys op Left x = passing_key (passes op.test) x
 filter_keys op Right x = empty

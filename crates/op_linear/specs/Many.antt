@@ -1,13 +1,13 @@
 -- Many: each row is spread over the rows that items make of it.
-use Rattle.std.specs.Prelude.{ℕ, Bool, ◌&&◌, List, map}
+use Rattle.std.specs.Prelude.{ℕ, Bool, ◌&&◌, List}
 use Rattle.std.specs.List.{list_all}
 use Rattle.record_text.specs.KindLists.{kinds_eq}
 use Rattle.record_text.specs.declared.kinds.Kind.{Kind}
 use Rattle.datasets.specs.Dataset.{Dataset, empty}
 use Rattle.datasets.specs.Entries.{Row}
 use Rattle.operators.specs.InRange.{many_in_range, weights_in_range}
-use Rattle.operators.specs.Operators.{Giving, applying, factor, spread}
-use Rattle.operators.specs.Weights.{tabulated}
+use Rattle.operators.specs.Keys.{shares}
+use Rattle.operators.specs.Operators.{spread}
 use Rattle.plan_model.specs.Acceptance.{are_ints, guards, have_kinds}
 use Rattle.plan_model.specs.Evaluation.{giving}
 use Rattle.plan_model.specs.Types.{first_row, kinds_over}
@@ -26,10 +26,6 @@ abbrev pub items_have_kinds : List Kind → List Item → Bool
 items_have_kinds cols items =
     are_ints cols (guards items)
     && list_all (λ i. have_kinds cols i.row && kinds_eq (kinds_over cols (first_row items)) (kinds_over cols i.row)) items
-
--- the rows that items make of the row y, each with its factor
-abbrev pub shares : ℕ → List Giving → Row → Dataset
-shares over items y = tabulated (factor over items y) (map (λ i. i.row y) (applying items y))
 
 -- the keys of a row on the left are the rows that the items make of it, with their factors; the right has no keys
 abbrev pub many_keys : ManyParts → Side → Row → Dataset

@@ -31,7 +31,8 @@ use Rattle.op_parts.proofs.Members.{AllByRecursion-from_list_all, list_all-every
 use Rattle.op_parts.proofs.OneRows.{at-one_row}
 use Rattle.op_parts.proofs.PartEntries.{weights-part_of}
 use Rattle.op_parts.proofs.Ranges.{AllInRange-tested, weights_in_range-all}
-use Rattle.op_linear.specs.Many.{ManyParts, many_fits, many_keys, shares}
+use Rattle.operators.specs.Keys.{shares}
+use Rattle.op_linear.specs.Many.{ManyParts, many_fits, many_keys}
 use Rattle.op_linear.specs.Summed.{summed, sums_in_range, weights}
 use Rattle.op_linear.specs.Sums.{sum_in_range}
 

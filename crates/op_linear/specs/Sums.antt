@@ -15,7 +15,7 @@ use Rattle.operators.specs.Operators.{select_terms}
 use Rattle.operators.specs.Weights.{weights_for}
 use Rattle.weighted_set.specs.Parts.{part_of}
 use Rattle.weighted_set.proofs.Sets.{InRange-zero}
-use Rattle.op_parts.specs.OneRow.{one_row}
+use Rattle.operators.specs.Keys.{one_key}
 use Rattle.op_parts.proofs.Members.{AllByRecursion-from_list_all, list_all-everywhere}
 use Rattle.op_parts.proofs.OneRows.{at-one_row, is_zero-one_ratio}
 use Rattle.op_parts.proofs.PartEntries.{weights-part_of}
@@ -26,7 +26,7 @@ use Rattle.op_linear.specs.Summed.{weights}
 module _ (f : Row → Row) (z : Row) (A : Dataset) where
   -- the row's factor at the key z
   abbrev factor_of : Row → Ratio
-  factor_of x = at (one_row (f x) one_ratio) z
+  factor_of x = at (one_key (f x)) z
 
   abbrev share : Row → Ratio
   share x = ratio_mul (at A x) (factor_of x)
@@ -45,8 +45,8 @@ module _ (f : Row → Row) (z : Row) (A : Dataset) where
       ] refl
 
   -- they are the weights of the rows that give the key, in row order
-  pub weights-part : weights (part_of (λ x. one_row (f x) one_ratio) z A) ≡ select_terms f A z
-  weights-part = weights-part_of (λ x. one_row (f x) one_ratio) z A ∙ shares_for (rows A)
+  pub weights-part : weights (part_of (λ x. one_key (f x)) z A) ≡ select_terms f A z
+  weights-part = weights-part_of (λ x. one_key (f x)) z A ∙ shares_for (rows A)
 
 -- ---- sums
 

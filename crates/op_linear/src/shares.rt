@@ -10,7 +10,8 @@ ghost use Rattle.ratios.specs.Ratio.{ratio};
 ghost use Rattle.record_text.specs.KindLists.{kinds_of};
 ghost use Rattle.weighted_set.specs.Changes.{entries_of};
 ghost use Rattle.op_parts.specs.Appended.{Appends};
-ghost use Rattle.op_linear.specs.Many.{items_have_kinds, shares as row_shares};
+ghost use Rattle.op_linear.specs.Many.{items_have_kinds};
+ghost use Rattle.operators.specs.Keys.{shares as row_shares};
 ghost use Rattle.op_linear.specs.Shares.{AddsItem, AddsWeight, AreAboveZero, divided, giving_of, sum_at, weight_on};
 
 use frac_core::Frac;

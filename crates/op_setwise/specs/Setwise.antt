@@ -1,16 +1,16 @@
 -- Set operators: at each row, the greater, the less, the sum or the difference of its two weights.
 use Rattle.std.specs.Prelude.{Bool, List, Option, Some}
 use Rattle.ratios.specs.Range.{checked}
-use Rattle.ratios.specs.Ratio.{Ratio, one_ratio, ratio_add, ratio_max, ratio_min, ratio_sub}
+use Rattle.ratios.specs.Ratio.{Ratio, ratio_add, ratio_max, ratio_min, ratio_sub}
 use Rattle.record_text.specs.declared.kinds.Kind.{Kind}
 use Rattle.datasets.specs.Dataset.{Dataset}
 use Rattle.datasets.specs.Entries.{Row}
 use Rattle.operators.specs.InRange.{weights_in_range}
+use Rattle.operators.specs.Keys.{one_key}
 use Rattle.operators.specs.Operators.{pointwise}
 use Rattle.plan_model.specs.Evaluation.{set_weight}
 use Rattle.plan_model.specs.declared.step.SetKind.{SetKind}
 use Rattle.weighted_set.specs.declared.part_op.Side.{Side}
-use Rattle.op_parts.specs.OneRow.{one_row}
 use Rattle.op_parts.specs.Takes.{HasOnly}
 
 -- a set operator: which, and the columns of the rows that it takes
@@ -20,7 +20,7 @@ pub record SetParts : Type 0 where
 
 -- a row is its own key on both sides
 abbrev pub set_keys : Side → Row → Dataset
-set_keys side x = one_row x one_ratio
+set_keys side x = one_key x
 
 -- the output on two inputs, or at a key on its two parts
 abbrev pub set_output : SetParts → Dataset → Dataset → Dataset

@@ -1,16 +1,16 @@
 -- Shave: the weight of each row cut into pieces.
 use Rattle.std.specs.Prelude.{◌-◌, Bool, ◌&&◌, List, length, take}
-use Rattle.ratios.specs.Ratio.{Ratio, one_ratio}
+use Rattle.ratios.specs.Ratio.{Ratio}
 use Rattle.record_text.specs.declared.kinds.Kind.{Kind}
 use Rattle.datasets.specs.Dataset.{Dataset, empty}
 use Rattle.datasets.specs.Entries.{Row}
 use Rattle.operators.specs.InRange.{shave_in_range, weights_in_range}
+use Rattle.operators.specs.Keys.{one_key, one_row}
 use Rattle.operators.specs.Operators.{shaved}
 use Rattle.plan_model.specs.Evaluation.{pieces}
 use Rattle.plan_model.specs.declared.step.Run.{Run}
 use Rattle.weighted_set.specs.declared.part_op.Side.{Side}
 use Rattle.weighted_set.specs.declared.part_op.Side.TheVariants.{Left, Right}
-use Rattle.op_parts.specs.OneRow.{one_row}
 
 -- a shave: its pieces, as runs, and the columns of the rows that it takes
 pub record ShaveParts : Type 0 where
@@ -19,7 +19,7 @@ pub record ShaveParts : Type 0 where
 
 -- a row on the left is its own key; the right has no keys
 abbrev pub shave_keys : Side → Row → Dataset
-shave_keys Left x = one_row x one_ratio
+shave_keys Left x = one_key x
 shave_keys Right x = empty
 
 -- the row before its last atom
