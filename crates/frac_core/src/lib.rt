@@ -118,6 +118,10 @@ const UNITS: i128 = 1 << 20;
 fn greatest_common_divisor(a: u64, b: u64) -> u64
     ensures { result ≡ gcd a b }
 {
+    // Whole numbers are the usual case, and a remainder takes long.
+    if b == 1 {
+        return 1;
+    }
     let mut x = a;
     let mut y = b;
     while y != 0 {
@@ -132,6 +136,9 @@ fn greatest_common_divisor(a: u64, b: u64) -> u64
 fn wide_greatest_common_divisor(a: u128, b: u128) -> u128
     ensures { result ≡ gcd a b }
 {
+    if b == 1 {
+        return 1;
+    }
     let mut x = a;
     let mut y = b;
     while y > WORD_MAX {
