@@ -128,6 +128,14 @@ fn have_kinds(atoms: &[Atom], kinds: &[Kind]) -> bool
     true
 }
 
+// Compares any two rows.
+#[inline(never)]
+fn compare(row: &Row, other: &Row) -> Ordering
+    ensures { result ≡ row_cmp row.now other.now }
+{
+    row.atoms().cmp(other.atoms())
+}
+
 impl PartialEq for Row {
     ghost eq = { row_eq };
 
@@ -161,7 +169,17 @@ impl Ord for Row {
 
     ghost matches_eq = { row_ties };
 
+    #[inline(always)]
     fn cmp(&self, other: &Row) -> Ordering {
-        self.atoms().cmp(other.atoms())
+        // Every search compares rows, so those of one or two Ints take no loop.
+        match (&self.atoms, &other.atoms) {
+            (Atoms::One([Atom::Int(a)]), Atoms::One([Atom::Int(b)])) => a.cmp(b),
+            (Atoms::Two([Atom::Int(a), Atom::Int(c)]), Atoms::Two([Atom::Int(b), Atom::Int(d)])) =>
+                match a.cmp(b) {
+                    Ordering::Equal => c.cmp(d),
+                    order => order,
+                },
+            _ => compare(self, other),
+        }
     }
 }
