@@ -1,15 +1,13 @@
 -- The changes of the outputs of keys.
 use Rattle.std.specs.Prelude.{◌≡◌, ◌≢◌, Bool, true, false, cond, ◌||◌, List, [], ◌∷◌, ◌++◌, refl}
-use Rattle.std.specs.List.{AllByRecursion, dedup, dedup_from}
-use Rattle.std.specs.List.Sorted.{IsStrictlySortedBy}
-use Rattle.std.specs.declared.cmp.Ordering.TheVariants.{Less}
+use Rattle.std.specs.List.{dedup, dedup_from}
 use Rattle.std.proofs.Common.{sym, ap, subst, ◌∙◌, true≢false}
 use Rattle.std.proofs.Math.Bool.{or-true}
 use Rattle.std.proofs.lemmas.List.{map-append}
 use Rattle.std.proofs.lemmas.List.Elements.{All-append, All-from_recursion}
 use Rattle.std.proofs.lemmas.List.Folds.{list_any-append}
 use Rattle.ratios.specs.Ratio.{zero_ratio}
-use Rattle.record_text.specs.Order.{row_cmp, row_eq}
+use Rattle.record_text.specs.Order.{row_eq}
 use Rattle.record_text.specs.OrderLaws.{row_ties}
 use Rattle.datasets.specs.Dataset.{Dataset, at, rows}
 use Rattle.datasets.specs.Entries.{AreRising, Row, has_row, same_row}
@@ -108,13 +106,3 @@ rows_of_dedup_from x c (d ∷ ds) =
 pub rows_of_dedup : (x : Row) (cs : List Change) → has_row (changed_rows (dedup same_change cs)) x ≡ has_row (changed_rows cs) x
 rows_of_dedup x [] = refl
 rows_of_dedup x (c ∷ cs) = rows_of_dedup_from x c cs
-
--- changes that rise have rows that rise
-below_all : (c : Change) (cs : List Change) → AllByRecursion (λ d. row_cmp c.row d.row ≡ Less) cs → AllByRecursion (λ x. row_cmp c.row x ≡ Less) (changed_rows cs)
-below_all c [] h = tt
-below_all c (d ∷ ds) h = (h.0, below_all c ds h.1)
-
-pub rising_rows : (cs : List Change) → IsStrictlySortedBy (λ a b. row_cmp a.row b.row) cs → AreRising (changed_rows cs)
-unfolding IsStrictlySortedBy
-rising_rows [] h = tt
-rising_rows (c ∷ cs) h = (below_all c cs h.0, rising_rows cs h.1)

@@ -134,7 +134,7 @@ fn put_inputs<O: PartOp, L: Ledger>(
     ensures right_committed { (k : Row) → committed_part right_store.new k ≡ committed_part right_store.old k }
     ensures ticks { steps.new ≤ steps.old + (changes_ticks (O.keys op.now Left) left.now + changes_ticks (O.keys op.now Right) right.now) }
 {
-    let mut keys = Vec::new(alloc);
+    let mut keys = Vec::with_capacity(alloc, left.len() + right.len())?;
     put_changes(alloc, op, Side::Left, left_store, left, &mut keys, steps)?;
     put_changes(alloc, op, Side::Right, right_store, right, &mut keys, steps)?;
     sort_rows(&mut keys);

@@ -1,63 +1,50 @@
 //! The changes of the outputs of keys.
-ghost use Rattle.std.specs.Prelude.{◌≡◌, ◌+◌, ◌*◌, ◌≤◌, ◌++◌, ◌∷◌, [], IfErr, IfOk, List, OnOk, false, true};
+ghost use Rattle.std.specs.Prelude.{◌≡◌, ◌+◌, ◌≤◌, ◌++◌, ◌∷◌, [], IfErr, IfOk, List, OnOk, false, true};
 ghost use Rattle.datasets.specs.Dataset.{Dataset};
 ghost use Rattle.datasets.specs.Entries.{AreRising, Row, has_row};
-ghost use Rattle.weighted_set.specs.Changes.{changed_rows, entries_of};
+ghost use Rattle.weighted_set.specs.Changes.{changed_rows};
 ghost use Rattle.weighted_set.specs.declared.part_op.OpFault.TheVariants as fault;
 ghost use Rattle.engines.specs.Staging.{AreOutputChanges, outputs_by};
-ghost use Rattle.engines.specs.Ticks.{key_ticks, keys_ticks, size};
-ghost use Rattle.weighted_set.specs.Parts.{committed_part, part_in, pending_part};
+ghost use Rattle.engines.specs.Ticks.{key_ticks, keys_ticks};
+ghost use Rattle.weighted_set.specs.Parts.{committed_part, pending_part};
 
 use record_text::Row;
 use std::alloc::Global;
-use std::mem;
 use std::sync::ledger::Ledger;
 use steps::Steps;
-use weighted_set::{Change, OpFault, PartOp, PartStore, View, Weighted, push_changes};
+use weighted_set::{Change, OpFault, PartOp, PartStore, Weighted, push_changes};
 
-// Lists that are filled anew for each key.
+// The rows of both inputs at a key and its output rows, before and after. They are filled anew for each key.
 #[derive(Drop)]
 struct Lists {
-    left: Vec<Weighted>,
-    right: Vec<Weighted>,
-    out: Vec<Weighted>,
+    left_before: Vec<Weighted>,
+    left_after: Vec<Weighted>,
+    right_before: Vec<Weighted>,
+    right_after: Vec<Weighted>,
+    before: Vec<Weighted>,
+    after: Vec<Weighted>,
 }
 
-// Lists the output rows of a key, from its part of either input in this view.
-fn list_outputs<O: PartOp, L: Ledger>(
-    op: &O,
-    left: &PartStore,
-    right: &PartStore,
-    key: &Row,
-    view: View,
-    lists: &mut Lists,
-    steps: &mut Steps<L>,
-) -> Result<(), OpFault>
-    requires { O.TakesPart op.now key.now (part_in view left.now key.now) (part_in view right.now key.now) }
-    ensures ok { OnOk result (entries_of lists.new.out.items ≡ (O.outputs op.now key.now (part_in view left.now key.now) (part_in view right.now key.now)).entries) }
-    ensures fits { OnOk result (O.part_fits op.now key.now (part_in view left.now key.now) (part_in view right.now key.now) ≡ true) }
-    ensures range { IfErr result (λ e. e ≡ fault.Range → O.part_fits op.now key.now (part_in view left.now key.now) (part_in view right.now key.now) ≡ false) }
-    ensures ticks { steps.new ≤ steps.old + 2 * (size (part_in view left.now key.now) + size (part_in view right.now key.now)) }
-{
-    left.read_part(key, view, &mut lists.left, steps)?;
-    right.read_part(key, view, &mut lists.right, steps)?;
-    op.part_out(
-        key,
-        lists.left.as_slice(),
-        lists.right.as_slice(),
-        &mut lists.out,
-        steps,
-    )
+impl Lists {
+    fn new(alloc: Global) -> Lists {
+        Lists {
+            left_before: Vec::new(alloc),
+            left_after: Vec::new(alloc),
+            right_before: Vec::new(alloc),
+            right_after: Vec::new(alloc),
+            before: Vec::new(alloc),
+            after: Vec::new(alloc),
+        }
+    }
 }
 
-// Puts the changes of the output rows of a key behind a list. `out` is emptied first.
+// Puts the changes of the output rows of a key behind a list.
 fn stage_key<O: PartOp, L: Ledger>(
     op: &O,
     left: &PartStore,
     right: &PartStore,
     key: &Row,
     lists: &mut Lists,
-    out: &mut Vec<Weighted>,
     changes: &mut Vec<Change>,
     steps: &mut Steps<L>,
 ) -> Result<(), OpFault>
@@ -68,10 +55,23 @@ fn stage_key<O: PartOp, L: Ledger>(
     ensures range { IfErr result (λ e. e ≡ fault.Range → O.part_fits op.now key.now (committed_part left.now key.now) (committed_part right.now key.now) ≡ true → O.part_fits op.now key.now (pending_part left.now key.now) (pending_part right.now key.now) ≡ false) }
     ensures ticks { steps.new ≤ steps.old + key_ticks left.now right.now key.now }
 {
-    list_outputs(op, left, right, key, View::Committed, lists, steps)?;
-    mem::swap(&mut lists.out, out);
-    list_outputs(op, left, right, key, View::Pending, lists, steps)?;
-    push_changes(out.as_slice(), lists.out.as_slice(), changes)?;
+    left.read_both(key, &mut lists.left_before, &mut lists.left_after, steps)?;
+    right.read_both(key, &mut lists.right_before, &mut lists.right_after, steps)?;
+    op.part_out(
+        key,
+        lists.left_before.as_slice(),
+        lists.right_before.as_slice(),
+        &mut lists.before,
+        steps,
+    )?;
+    op.part_out(
+        key,
+        lists.left_after.as_slice(),
+        lists.right_after.as_slice(),
+        &mut lists.after,
+        steps,
+    )?;
+    push_changes(lists.before.as_slice(), lists.after.as_slice(), changes)?;
     Ok(())
 }
 
@@ -101,24 +101,10 @@ pub fn stage_keys<O: PartOp, L: Ledger>(
     ensures range { IfErr result (λ e. e ≡ fault.Range → ((k : Row) → O.part_fits op.now k (committed_part left.now k) (committed_part right.now k) ≡ true) → (k : Row) × (O.part_fits op.now k (pending_part left.now k) (pending_part right.now k) ≡ false)) }
     ensures ticks { steps.new ≤ steps.old + keys_ticks left.now right.now keys.now }
 {
-    let mut lists = Lists {
-        left: Vec::new(alloc),
-        right: Vec::new(alloc),
-        out: Vec::new(alloc),
-    };
-    let mut out = Vec::new(alloc);
-    let mut changes = Vec::new(alloc);
+    let mut lists = Lists::new(alloc);
+    let mut changes = Vec::with_capacity(alloc, keys.len())?;
     for key in keys {
-        stage_key(
-            op,
-            left,
-            right,
-            key,
-            &mut lists,
-            &mut out,
-            &mut changes,
-            steps,
-        )?;
+        stage_key(op, left, right, key, &mut lists, &mut changes, steps)?;
     }
     sort_changes(&mut changes);
     Ok(changes)

@@ -2,6 +2,8 @@
 use Rattle.std.specs.Prelude.{◌≡◌, ◌≢◌, Bool, true, false, not, cond, ◌||◌, All, List, [], ◌∷◌, map, filter, Option, Some, None, MatchOption, refl}
 use Rattle.std.specs.List.{AllByRecursion}
 use Rattle.std.specs.List.Sorted.{IsStrictlySortedBy}
+use Rattle.std.specs.declared.cmp.Ordering.TheVariants.{Less}
+use Rattle.record_text.specs.Order.{row_cmp}
 use Rattle.std.specs.Map.{lookup}
 use Rattle.std.specs.Ordering.{is_eq, eq_by_cmp}
 use Rattle.std.proofs.Common.{sym, ap, subst, ◌∙◌, true≢false}
@@ -154,3 +156,13 @@ changes_are_change_list cs A h =
             | false ↦ λ p. absurd (n (sym (unchanged A cs x p)))
           ] refl;
     }
+
+-- changes that rise have rows that rise
+below_all : (c : Change) (cs : List Change) → AllByRecursion (λ d. row_cmp c.row d.row ≡ Less) cs → AllByRecursion (λ x. row_cmp c.row x ≡ Less) (changed_rows cs)
+below_all c [] h = tt
+below_all c (d ∷ ds) h = (h.0, below_all c ds h.1)
+
+pub rising_rows : (cs : List Change) → IsStrictlySortedBy (λ a b. row_cmp a.row b.row) cs → AreRising (changed_rows cs)
+unfolding IsStrictlySortedBy
+rising_rows [] h = tt
+rising_rows (c ∷ cs) h = (below_all c cs h.0, rising_rows cs h.1)

@@ -4,6 +4,7 @@ pub mod Sets
 pub mod OneRow
 pub mod OneRowSets
 pub mod ChangeLists
+pub mod DistinctRows
 pub mod Running
 pub mod Parts
 pub mod WeightSets

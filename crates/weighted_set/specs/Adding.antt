@@ -1,6 +1,8 @@
 -- What adding weights to a dataset answers.
-use Rattle.std.specs.Prelude.{◌≡◌, ℕ, Bool, true, false, ◌⊎◌, List, Option, Some, None}
+use Rattle.std.specs.Prelude.{◌≡◌, ◌≢◌, ℕ, Bool, true, false, ◌⊎◌, List, Option, Some, None}
 use Rattle.std.specs.List.{position_from}
+use Rattle.ratios.specs.Range.{InRange}
+use Rattle.ratios.specs.Ratio.{ratio_add}
 use Rattle.datasets.specs.Dataset.{Dataset, at, with_added, first_weight_out_of_range, first_negative, is_negative}
 use Rattle.weighted_set.specs.declared.adding.AddFault.{AddFault}
 use Rattle.weighted_set.specs.declared.adding.AddFault.TheVariants.{Range, Negative, Memory}
@@ -23,6 +25,15 @@ pub record AreChangesOfAdding (A : Dataset) (added : List Weighted) (signed : Bo
   pub in_range : StaysInRange A added
   pub allowed : EndsAllowed A added signed
   pub lead_there : IsChangeList changes A (with_added A (entries_of added))
+
+-- c adds the weight of one to its row, which weighs something else then, in range and allowed
+pub record IsAddedChange (A : Dataset) (signed : Bool) (one : Weighted) (c : Change) : Type 0 where
+  pub row : c.row ≡ one.row
+  pub old : c.old ≡ at A one.row
+  pub new : c.new ≡ ratio_add (at A one.row) one.weight
+  pub in_range : InRange c.new
+  pub changes : c.old ≢ c.new
+  pub allowed : signed ≡ false → is_negative c.new ≡ false
 
 -- the rows es hold the weights of A, and what they are once the weights are added
 abbrev pub HoldsAdded : HeldRows → Dataset → List Weighted → Type 0

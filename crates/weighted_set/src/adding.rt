@@ -1,6 +1,6 @@
 //! Weights that are added one by one.
-ghost use Rattle.std.specs.Prelude.{◌≡◌, IfErr, IfOk, true};
-ghost use Rattle.weighted_set.specs.Adding.{HoldsAdded, IsAddFault, IsFirstBelowZero, StaysInRange};
+ghost use Rattle.std.specs.Prelude.{◌≡◌, IfErr, IfOk, IfSome, true};
+ghost use Rattle.weighted_set.specs.Adding.{AreChangesOfAdding, HoldsAdded, IsAddFault, IsAddedChange, IsFirstBelowZero, StaysInRange};
 ghost use Rattle.weighted_set.specs.Held.{AreStepChanges, HasStepWeights};
 ghost use Rattle.weighted_set.specs.declared.adding.AddFault.TheVariants as fault;
 
@@ -52,8 +52,8 @@ fn weights_of(set: &HeldSet, running: &BTreeMap<Row, Held>, row: &Row) -> Held
     }
 }
 
-/// The rows that weights are added to, with their weights before and after.
-pub fn add_all(
+// The rows that weights are added to, with their weights before and after.
+fn add_all(
     alloc: Global,
     set: &HeldSet,
     added: &[Weighted],
@@ -77,12 +77,8 @@ pub fn add_all(
     Ok(running)
 }
 
-/// The first place whose row ends below 0.
-pub fn first_negative(
-    set: &HeldSet,
-    running: &BTreeMap<Row, Held>,
-    added: &[Weighted],
-) -> Option<usize>
+// The first place whose row ends below 0.
+fn first_negative(set: &HeldSet, running: &BTreeMap<Row, Held>, added: &[Weighted]) -> Option<usize>
     ensures { IsFirstBelowZero running.now.entries set.now.committed added.now result }
 {
     for (at, one) in added.iter().enumerate() {
@@ -93,8 +89,8 @@ pub fn first_negative(
     None
 }
 
-/// The rows whose two weights differ, as changes in row order.
-pub fn changes_in(alloc: Global, running: BTreeMap<Row, Held>) -> Result<Vec<Change>, Memory>
+// The rows whose two weights differ, as changes in row order.
+fn changes_in(alloc: Global, running: BTreeMap<Row, Held>) -> Result<Vec<Change>, Memory>
     ensures { IfOk result (λ changes. AreStepChanges running.entries changes.items) }
 {
     // Tells that the rows are in order.
@@ -110,4 +106,64 @@ pub fn changes_in(alloc: Global, running: BTreeMap<Row, Held>) -> Result<Vec<Cha
         }
     }
     Ok(changes)
+}
+
+/// The changes that adding weights one by one would make, in row order, or the first fault.
+pub fn changes_of_each(
+    alloc: Global,
+    set: &HeldSet,
+    added: &[Weighted],
+    signed: bool,
+) -> Result<Vec<Change>, AddFault>
+    ensures ok { IfOk result (λ changes. AreChangesOfAdding set.now.committed added.now signed changes.items) }
+    ensures err { IfErr result (IsAddFault set.now.committed added.now signed) }
+{
+    let running = add_all(alloc, set, added)?;
+    if !signed {
+        if let Some(at) = first_negative(set, &running, added) {
+            return Err(AddFault::Negative { at });
+        }
+    }
+    let changes = changes_in(alloc, running)?;
+    Ok(changes)
+}
+
+// The change of a row to which a weight is added, where the row then weighs something else, in range and allowed.
+fn change_of(set: &HeldSet, one: &Weighted, signed: bool) -> Result<Option<Change>, Memory>
+    ensures { IfOk result (λ found. IfSome found (IsAddedChange set.now.committed signed one.now)) }
+{
+    let old = set.weight(&one.row);
+    let Some(new) = old.add(one.weight) else {
+        return Ok(None);
+    };
+    if new == old || (!signed && new < Frac::zero()) {
+        return Ok(None);
+    }
+    let row = one.row.try_copy()?;
+    Ok(Some(Change { row, old, new }))
+}
+
+/// The changes that adding weights would make, in row order, where no row is there twice and each then weighs something else,
+/// in range and allowed.
+pub fn changes_of_distinct(
+    alloc: Global,
+    set: &HeldSet,
+    added: &[Weighted],
+    signed: bool,
+) -> Result<Option<Vec<Change>>, Memory>
+    ensures { IfOk result (λ found. IfSome found (λ changes. AreChangesOfAdding set.now.committed added.now signed changes.items)) }
+{
+    let mut changes = Vec::with_capacity(alloc, added.len())?;
+    for one in added {
+        let Some(change) = change_of(set, one, signed)? else {
+            return Ok(None);
+        };
+        changes.push(change)?;
+    }
+    changes.sort_unstable();
+    changes.dedup();
+    if changes.len() < added.len() {
+        return Ok(None);
+    }
+    Ok(Some(changes))
 }

@@ -140,6 +140,32 @@ impl Part {
             KeyRows::Many(set) => set.read(view, into, steps),
         }
     }
+
+    /// Puts the rows and weights before and after what is pending in two lists, each in row order and in place of what is
+    /// there. It takes one tick for each of them. After a refusal both lists are empty.
+    pub fn read_both<L: Ledger>(
+        &self,
+        before: &mut Vec<Weighted>,
+        after: &mut Vec<Weighted>,
+        steps: &mut Steps<L>,
+    ) -> Result<(), Memory>
+        ensures before { OnOk result (entries_of before.new.items ≡ self.now.committed.entries) }
+        ensures after { OnOk result (entries_of after.new.items ≡ self.now.pending.entries) }
+        ensures no_before { OnErr result (before.new.items ≡ []) }
+        ensures no_after { OnErr result (after.new.items ≡ []) }
+        ensures ticks { OnOk result (steps.new ≡ steps.old + (length self.now.committed.entries + length self.now.pending.entries)) }
+        ensures at_most { steps.new ≤ steps.old + (length self.now.committed.entries + length self.now.pending.entries) }
+    {
+        after.clear();
+        self.read(View::Committed, before, steps)?;
+        match self.read(View::Pending, after, steps) {
+            Ok(()) => Ok(()),
+            Err(fault) => {
+                before.clear();
+                Err(fault)
+            }
+        }
+    }
 }
 
 // Puts a row with its weight, where that isn't 0, in a list in place of what is there, with one tick for it.

@@ -84,6 +84,32 @@ impl PartStore {
         }
     }
 
+    /// Puts a key's rows and weights before and after what is pending in two lists, each in row order and in place of what is
+    /// there, with one search for the key. It takes one tick for each of them. After a refusal both lists are empty.
+    pub fn read_both<L: Ledger>(
+        &self,
+        key: &Row,
+        before: &mut Vec<Weighted>,
+        after: &mut Vec<Weighted>,
+        steps: &mut Steps<L>,
+    ) -> Result<(), Memory>
+        ensures before { OnOk result (entries_of before.new.items ≡ (committed_part self.now key.now).entries) }
+        ensures after { OnOk result (entries_of after.new.items ≡ (pending_part self.now key.now).entries) }
+        ensures no_before { OnErr result (before.new.items ≡ []) }
+        ensures no_after { OnErr result (after.new.items ≡ []) }
+        ensures ticks { OnOk result (steps.new ≡ steps.old + (length (committed_part self.now key.now).entries + length (pending_part self.now key.now).entries)) }
+        ensures at_most { steps.new ≤ steps.old + (length (committed_part self.now key.now).entries + length (pending_part self.now key.now).entries) }
+    {
+        match self.parts.get(key) {
+            Some(part) => part.read_both(before, after, steps),
+            None => {
+                before.clear();
+                after.clear();
+                Ok(())
+            }
+        }
+    }
+
     /// The committed weight of a row at a key, 0 where it is absent. It takes one tick.
     pub fn weight<L: Ledger>(&self, key: &Row, row: &Row, steps: &mut Steps<L>) -> Frac
         ensures value { result ≡ weight_at (committed_part self.now key.now) row.now }

@@ -6,7 +6,7 @@ ghost use Rattle.weighted_set.specs.Changes.{AreChangesOf, IsChangeList, applied
 ghost use Rattle.weighted_set.specs.Held.{AllInRange, one_held, viewed};
 
 use crate::Memory;
-use crate::adding::{AddFault, add_all, changes_in, first_negative};
+use crate::adding::{AddFault, changes_of_distinct, changes_of_each};
 use crate::held::{
     Held, View, all_changes, entry_at, held_at, put, put_pending, read_rows, row_count, settle_row,
 };
@@ -121,14 +121,10 @@ impl HeldSet {
         ensures ok { IfOk result (λ changes. AreChangesOfAdding self.now.committed added.now signed changes.items) }
         ensures err { IfErr result (IsAddFault self.now.committed added.now signed) }
     {
-        let running = add_all(self.alloc, self, added)?;
-        if !signed {
-            if let Some(at) = first_negative(self, &running, added) {
-                return Err(AddFault::Negative { at });
-            }
+        match changes_of_distinct(self.alloc, self, added, signed)? {
+            Some(changes) => Ok(changes),
+            None => changes_of_each(self.alloc, self, added, signed),
         }
-        let changes = changes_in(self.alloc, running)?;
-        Ok(changes)
     }
 
     /// Makes the changes pending. After a refusal nothing is pending.

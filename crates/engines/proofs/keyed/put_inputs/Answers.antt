@@ -5,7 +5,7 @@ use Rattle.engines.proofs.keyed.put_inputs.Goals as goal
 
 pub returns-in_err-put_changes-clause-range : goal.returns-in_err-put_changes-clause-range
 returns-in_err-put_changes-clause-range g c =
-    let p = err_from_is_err_and c.from_residual.result c.from_residual.ensures.1 in
+    let p = err_from_is_err_and c.from_residual-in_err-put_changes.result c.from_residual-in_err-put_changes.ensures.1 in
     rw (p.1, p.2) (λ e. inl (c.in_err-put_changes.ensures.range e))
 
 pub returns-in_err-put_changes-2-clause-range : goal.returns-in_err-put_changes-2-clause-range

@@ -10,7 +10,8 @@ use Rattle.datasets.specs.Entries.{AreRising, same_row}
 use Rattle.weighted_set.specs.declared.weighted.Change.{Change}
 use Rattle.weighted_set.specs.Changes.{changed_rows}
 use Rattle.engines.specs.Staging.{AreOutputChanges}
-use Rattle.engines.proofs.Staged.{IsOutputChange, rising_rows, rows_of_dedup}
+use Rattle.weighted_set.proofs.ChangeLists.{rising_rows}
+use Rattle.engines.proofs.Staged.{IsOutputChange, rows_of_dedup}
 use Rattle.engines.proofs.outputs.sort_changes.Goals as goal
 
 pub returns : goal.returns

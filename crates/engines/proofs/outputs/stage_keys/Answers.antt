@@ -32,7 +32,7 @@ loop-key-preserved g c =
 
 pub returns-in_err-stage_key-clause-range : goal.returns-in_err-stage_key-clause-range
 returns-in_err-stage_key-clause-range g c =
-    let p = err_from_is_err_and c.from_residual.result c.from_residual.ensures.1 in
+    let p = err_from_is_err_and c.from_residual-in_err-stage_key.result c.from_residual-in_err-stage_key.ensures.1 in
     rw (p.1, p.2) (λ e before. (c.key-item.result, c.in_err-stage_key.ensures.range e (before c.key-item.result)))
 
 pub returns-clause-fits : goal.returns-clause-fits
