@@ -1,15 +1,14 @@
--- What is fetched for a line, and what the buffer for it leaves alone.
-use Rattle.std.proofs.Common.{◌≡◌, ◌≤◌, ◌∙◌, ℕ, Bool, List, Vec, Global, refl, sym, arith, Ok, Some, Option, Result}
+-- What is fetched for a line.
+use Rattle.std.proofs.Common.{◌≡◌, ◌≤◌, ◌∙◌, ℕ, Bool, List, refl, sym, arith, Ok, Some, Option, Result}
 use Rattle.std.proofs.lemmas.Option.{get_or_from_slice_get}
 use Rattle.io_edge.specs.Shelf.{Files}
 use Rattle.messages.specs.declared.refusal.Refusal.{Refusal}
-use Rattle.messages.specs.declared.reply.Reply.{Reply}
 use Rattle.messages.specs.declared.reply.Reply.TheVariants as reply
 use Rattle.messages.specs.declared.request.Request.{Request}
 use Rattle.request_machine.specs.Fetches.{Fetched, MayFetch, Nothing}
 use Rattle.request_machine.specs.Loads.{loaded, loaded_by}
 use Rattle.request_machine.specs.Named.{place_named, source_name}
-use Rattle.request_machine.specs.State.{SourceState, State}
+use Rattle.request_machine.specs.State.{SourceState}
 use Rattle.request_machine.proofs.Loading.{loaded_known, surely}
 use Rattle.request_machine.proofs.Outcomes.{place_within}
 use Rattle.session_data.proofs.Turned.{somewhere}
@@ -19,7 +18,7 @@ use Rattle.session_core.specs.Parts.{AreSettled, state_of}
 use Rattle.session_core.specs.declared.outcome.Effect.TheVariants as effect
 use Rattle.session_core.specs.declared.outcome.Outcome.{Outcome}
 use Rattle.session_core.specs.declared.parts.Parts.{Parts}
-use Rattle.session_core.proofs.ComesTo.{Does-alike, Does-told}
+use Rattle.session_core.proofs.ComesTo.{Does-told}
 
 -- nothing is fetched where no file is asked for
 pub FetchesAnd-nothing : (files : Option Files) (faults : ℕ) (asked : Result Request Refusal) (P : Fetched → Type 0)
@@ -34,28 +33,12 @@ FetchesAnd-any files faults_before faults_now asked P later h =
     let sure = surely files asked in
     record { fetched = sure.fetched; may_fetch = sure.may_fetch; later = later; failed = λ f. absurd (sure.sure f); holds = h sure.fetched }
 
-module _ (old : Parts) (file : Vec ℕ Global) (settled : AreSettled old) where
-  -- another file in the buffer
-  pub AreSettled-file : AreSettled (record old { file = file })
-  AreSettled-file = record {
-    kept = record { sound = settled.kept.sound; names = settled.kept.names; names_room = settled.kept.names_room; plans_room = settled.kept.plans_room };
-    plans = settled.plans;
-    none_pending = settled.none_pending;
-  }
-
-  -- a reply that leaves the state then
-  pub Does-file : (outcome : Outcome) (answer : Reply) (target : State × Reply) → outcome.reply ≡ answer → outcome.effect ≡ effect.Nothing → target ≡ (state_of old, answer)
-      → Does (Ok outcome) old (record old { file = file }) target
-  Does-file outcome answer target told nothing is =
-      let new : Parts = record old { file = file } in
-      Does-alike (Ok outcome) new old new target target refl refl (Does-told new outcome answer target AreSettled-file told nothing is)
-
-  -- a load for which the shelf gave no file is refused
-  pub Does-no_file : (name : List ℕ) (header : Bool) (fetched : Fetched) (at : ℕ) (outcome : Outcome) (why : Refusal) → place_named source_name name old.sources.committed ≡ Some at
-      → ((source : SourceState) → loaded_by fetched (state_of old) at source header ≡ (state_of old, reply.Refused why))
-      → outcome.reply ≡ reply.Refused why → outcome.effect ≡ effect.Nothing → Does (Ok outcome) old (record old { file = file }) (loaded (state_of old) name header fetched)
-  Does-no_file name header fetched at outcome why here refused told nothing =
-      let sources = old.sources.committed in
-      let there = somewhere sources at (place_within source_name name sources at here) in
-      Does-file outcome (reply.Refused why) (loaded (state_of old) name header fetched) told nothing
-      (loaded_known (state_of old) name header fetched at there.0 here (sym (get_or_from_slice_get sources at there.0 there.0 there.1)) ∙ refused there.0)
+-- a load for which the shelf gave no file is refused
+pub Does-no_file : (old : Parts) (name : List ℕ) (header : Bool) (fetched : Fetched) (at : ℕ) (outcome : Outcome) (why : Refusal) → AreSettled old → place_named source_name name old.sources.committed ≡ Some at
+    → ((source : SourceState) → loaded_by fetched (state_of old) at source header ≡ (state_of old, reply.Refused why))
+    → outcome.reply ≡ reply.Refused why → outcome.effect ≡ effect.Nothing → Does (Ok outcome) old old (loaded (state_of old) name header fetched)
+Does-no_file old name header fetched at outcome why settled here refused told nothing =
+    let sources = old.sources.committed in
+    let there = somewhere sources at (place_within source_name name sources at here) in
+    Does-told old outcome (reply.Refused why) (loaded (state_of old) name header fetched) settled told nothing
+    (loaded_known (state_of old) name header fetched at there.0 here (sym (get_or_from_slice_get sources at there.0 there.0 there.1)) ∙ refused there.0)

@@ -9,6 +9,7 @@ use crate::parts::Parts;
 use record_text::{Kinds, Name, Row};
 use request_text::{Memory, Refusal, Reply, Target, Thing, Weights};
 use std::alloc::Global;
+use std::collections::BTreeSet;
 use std::sync::ledger::Ledger;
 use steps::Steps;
 use weighted_set::HeldSet;
@@ -41,7 +42,7 @@ impl Parts {
             return Ok(Reply::Refused(Refusal::Unknown { what, name }));
         };
         let kinds = self.sources.source_type(at).kinds;
-        if let Some(refusal) = self.row_refusal(kinds, rows) {
+        if let Some(refusal) = self.row_refusal(kinds, rows)? {
             return Ok(Reply::Refused(refusal));
         }
         let weights = weights_in(self.alloc, self.sources.sets().at(at), rows)?;
@@ -65,7 +66,7 @@ impl Parts {
             return Ok(Reply::Refused(Refusal::Unknown { what, name }));
         };
         let planned = &self.plans[at];
-        if let Some(refusal) = self.row_refusal(planned.cols, rows) {
+        if let Some(refusal) = self.row_refusal(planned.cols, rows)? {
             return Ok(Reply::Refused(refusal));
         }
         let weights = planned.weights(self.alloc, rows, steps)?;
@@ -73,13 +74,13 @@ impl Parts {
     }
 
     // Why the rows can't be looked up in a dataset of these columns.
-    fn row_refusal(&self, kinds: Kinds, rows: &[Row]) -> Option<Refusal>
-        ensures { result ≡ row_refusal self.now.curator kinds rows.now }
+    fn row_refusal(&self, kinds: Kinds, rows: &[Row]) -> Result<Option<Refusal>, Memory>
+        ensures { IfOk result (λ refusal. refusal ≡ row_refusal self.now.curator kinds rows.now) }
     {
         if !self.curator {
-            return Some(Refusal::Curator);
+            return Ok(Some(Refusal::Curator));
         }
-        row_fault(kinds, rows)
+        row_fault(self.alloc, kinds, rows)
     }
 }
 
@@ -95,16 +96,18 @@ fn weights_in(alloc: Global, set: &HeldSet, rows: &[Row]) -> Result<Weights, Mem
 }
 
 /// The first row that doesn't have these kinds or is one that came before.
-pub fn row_fault(kinds: Kinds, rows: &[Row]) -> Option<Refusal>
-    ensures { result ≡ first_row_fault kinds [] 0 rows.now }
+pub fn row_fault(alloc: Global, kinds: Kinds, rows: &[Row]) -> Result<Option<Refusal>, Memory>
+    ensures { IfOk result (λ fault. fault ≡ first_row_fault kinds [] 0 rows.now) }
 {
+    let mut before = BTreeSet::new(alloc);
     for (at, row) in rows.iter().enumerate() {
         if !row.fits(kinds) {
-            return Some(Refusal::Row { at });
+            return Ok(Some(Refusal::Row { at }));
         }
-        if rows[..at].contains(row) {
-            return Some(Refusal::Repeat { at });
+        let is_new = before.insert(row.try_copy()?)?;
+        if !is_new {
+            return Ok(Some(Refusal::Repeat { at }));
         }
     }
-    None
+    Ok(None)
 }

@@ -44,10 +44,12 @@ impl Parts {
             return Ok(Outcome::refused(Refusal::Unknown { what, name }));
         };
         law_path();
-        match shelf.fetch(path.as_slice(), MAX_FILE, &mut self.file) {
+        // The load's own, so that its memory is given back.
+        let mut file = Vec::new(self.alloc);
+        match shelf.fetch(path.as_slice(), MAX_FILE, &mut file) {
             Ok(()) => {
                 let kinds = self.sources.source_type(at).kinds;
-                let read = read_changes(self.alloc, self.file.as_slice(), kinds, header);
+                let read = read_changes(self.alloc, file.as_slice(), kinds, header);
                 self.add_read(at, read, steps)
             }
             Err(ShelfFault::Failed) => Ok(Outcome::refused(Refusal::File)),

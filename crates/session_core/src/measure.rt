@@ -66,7 +66,7 @@ impl Parts {
             return Ok(Outcome::refused(Refusal::Unknown { what, name }));
         };
         let planned = &self.plans[at];
-        if let Some(why) = row_fault(planned.cols, rows) {
+        if let Some(why) = row_fault(self.alloc, planned.cols, rows)? {
             return Ok(Outcome::refused(why));
         }
         let asks = asks_at(self.alloc, planned.uses.as_slice(), epsilon)?;

@@ -32,8 +32,6 @@ pub struct Parts {
     pub sources: Sources,
     pub plan_names: IndexSet<Name>,
     pub plans: Vec<Planned>,
-    /// The room for a file, kept between loads.
-    pub file: Vec<u8>,
     pub alloc: Global,
 }
 
@@ -49,7 +47,6 @@ impl Parts {
             sources: Sources::new(alloc)?,
             plan_names: IndexSet::with_capacity(alloc, MAX_PLANS)?,
             plans: Vec::with_capacity(alloc, MAX_PLANS)?,
-            file: Vec::new(alloc),
             alloc,
         })
     }

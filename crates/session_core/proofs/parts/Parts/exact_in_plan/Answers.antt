@@ -15,8 +15,8 @@ use Rattle.session_core.proofs.parts.Parts.exact_in_plan.Goals as goal
 pub returns-in_default-clause-reply : goal.returns-in_default-clause-reply
 returns-in_default-clause-reply g c = sym (plan_unknown (state_of c.args.self.now) c.args.name c.args.rows.now (sym c.in_default.ensures))
 
-pub returns-in-Some-row_refusal-clause-reply : goal.returns-in-Some-row_refusal-clause-reply
-returns-in-Some-row_refusal-clause-reply g c =
+pub returns-in-Some-2-clause-reply : goal.returns-in-Some-2-clause-reply
+returns-in-Some-2-clause-reply g c =
     let parts = c.args.self.now in
     let sources = parts.sources.committed in
     let plans = parts.plans.items in
@@ -24,8 +24,8 @@ returns-in-Some-row_refusal-clause-reply g c =
     let lt : c.in-Some.at < length plans = subst (λ n. c.in-Some.at < n) (length-map plans plan_state) (place_within plan_name c.args.name (plan_states plans) c.in-Some.at (sym c.in-Some.ensures)) in
     let held = subst (IsSettled (types_of sources) (family_of sources)) (sym c.index-planned.ensures) (c.requires.plans c.in-Some.at planned lt) in
     sym (plan_known (state_of parts) c.args.name c.args.rows.now c.in-Some.at (plan_state planned) (sym c.in-Some.ensures) (state_here plans c.in-Some.at planned lt c.index-planned.ensures)
-    ∙ looked_up-refused parts.curator (columns_of sources planned.plan) (eval planned.plan (types_of sources) (family_of sources)) c.args.rows.now c.in-Some-row_refusal.refusal
-    (rw (sym held.holds.cols) c.in-Some-row_refusal.ensures))
+    ∙ looked_up-refused parts.curator (columns_of sources planned.plan) (eval planned.plan (types_of sources) (family_of sources)) c.args.rows.now c.in-Some-2.refusal
+    (rw (sym held.holds.cols) (sym c.in-Some-2.is ∙ c.in_ok-refusal.ensures)))
 
 pub returns-clause-reply : goal.returns-clause-reply
 returns-clause-reply g c =
@@ -38,4 +38,4 @@ returns-clause-reply g c =
     ap reply.Weights (c.in_ok-weights.ensures.weights (types_of sources) (family_of sources) held.holds)
     ∙ sym (plan_known (state_of parts) c.args.name c.args.rows.now c.in-Some.at (plan_state planned) (sym c.in-Some.ensures) (state_here plans c.in-Some.at planned lt c.index-planned.ensures)
     ∙ looked_up-weights parts.curator (columns_of sources planned.plan) (eval planned.plan (types_of sources) (family_of sources)) c.args.rows.now
-    (rw (sym held.holds.cols) c.in_default-row_refusal.ensures))
+    (rw (sym held.holds.cols) (sym c.in_default-2.is ∙ c.in_ok-refusal.ensures)))

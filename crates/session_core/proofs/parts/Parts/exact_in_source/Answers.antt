@@ -17,14 +17,14 @@ use Rattle.session_core.proofs.parts.Parts.exact_in_source.Goals as goal
 pub returns-in_default : goal.returns-in_default
 returns-in_default c = sym (source_unknown (state_of c.args.self.now) c.args.name c.args.rows.now (sym c.in_default.ensures))
 
-pub returns-in-Some-row_refusal : goal.returns-in-Some-row_refusal
-returns-in-Some-row_refusal c =
+pub returns-in-Some-2 : goal.returns-in-Some-2
+returns-in-Some-2 c =
     let sources = c.args.self.now.sources.committed in
     let there = somewhere sources c.in-Some.at (place_within source_name c.args.name sources c.in-Some.at (sym c.in-Some.ensures)) in
     let typed = type_here sources c.in-Some.at there.0 c.source_type-kinds.result there.1 c.source_type-kinds.ensures in
     sym (source_known (state_of c.args.self.now) c.args.name c.args.rows.now c.in-Some.at there.0 (sym c.in-Some.ensures) (sym (get_or_from_slice_get sources c.in-Some.at there.0 there.0 there.1))
-    ∙ looked_up-refused c.args.self.now.curator there.0.kinds there.0.rows c.args.rows.now c.in-Some-row_refusal.refusal
-    (rw (ap (λ (t : SourceType). t.kinds) typed) c.in-Some-row_refusal.ensures))
+    ∙ looked_up-refused c.args.self.now.curator there.0.kinds there.0.rows c.args.rows.now c.in-Some-2.refusal
+    (rw (ap (λ (t : SourceType). t.kinds) typed) (sym c.in-Some-2.is ∙ c.in_ok-refusal.ensures)))
 
 pub at-requires : goal.at-requires
 at-requires c =
@@ -47,4 +47,4 @@ returns c =
     ap reply.Weights (c.in_ok-weights.ensures ∙ ap (λ (A : Dataset). map (at A) c.args.rows.now) (sym rows))
     ∙ sym (source_known (state_of c.args.self.now) c.args.name c.args.rows.now c.in-Some.at there.0 (sym c.in-Some.ensures) (sym (get_or_from_slice_get sources c.in-Some.at there.0 there.0 there.1))
     ∙ looked_up-weights c.args.self.now.curator there.0.kinds there.0.rows c.args.rows.now
-    (rw (ap (λ (t : SourceType). t.kinds) typed) c.in_default-row_refusal.ensures))
+    (rw (ap (λ (t : SourceType). t.kinds) typed) (sym c.in_default-2.is ∙ c.in_ok-refusal.ensures)))

@@ -15,12 +15,11 @@ use Rattle.request_machine.specs.State.{State}
 use Rattle.request_machine.specs.Updates.{updated_by}
 use Rattle.session_core.specs.Parts.{state_of}
 use Rattle.session_core.specs.Work.{outcome_steps, without_plans}
-use Rattle.session_core.specs.declared.parts.Parts.{Parts}
 use Rattle.request_machine.proofs.Loading.{Fetches-long, loaded_known, loaded_unknown}
 use Rattle.request_machine.proofs.Outcomes.{place_within}
 use Rattle.session_data.proofs.Turned.{somewhere, type_here}
 use Rattle.session_core.proofs.ComesTo.{Does-alike, Does-told}
-use Rattle.session_core.proofs.Fetched.{AreSettled-file, Does-no_file, FetchesAnd-any}
+use Rattle.session_core.proofs.Fetched.{Does-no_file, FetchesAnd-any}
 use Rattle.session_core.proofs.parts.Parts.load.Goals as goal
 
 pub returns-in_default-clause-loaded : goal.returns-in_default-clause-loaded
@@ -37,7 +36,7 @@ pub fetch-requires-clause-path : goal.fetch-requires-clause-path
 fetch-requires-clause-path g c = subst (λ (path : List ℕ). IsTrue (is_path path)) (sym c.as_slice.ensures) ((c.law_path.ensures c.args.path.now).1 c.requires.path)
 
 pub add_read-requires-clause-settled : goal.add_read-requires-clause-settled
-add_read-requires-clause-settled g c = AreSettled-file c.args.self.now c.fetch.new.into c.requires.settled
+add_read-requires-clause-settled g c = c.requires.settled
 
 pub add_read-requires-clause-kinds : goal.add_read-requires-clause-kinds
 add_read-requires-clause-kinds g c = λ source here.
@@ -47,7 +46,6 @@ add_read-requires-clause-kinds g c = λ source here.
 pub returns-in-Ok-clause-loaded : goal.returns-in-Ok-clause-loaded
 returns-in-Ok-clause-loaded g c =
     let old = c.args.self.now in
-    let new : Parts = record old { file = c.fetch.new.into } in
     let sources = old.sources.committed in
     let at = c.in-Some.at in
     let there = somewhere sources at (place_within source_name c.args.name sources at (sym c.in-Some.ensures)) in
@@ -63,7 +61,7 @@ returns-in-Ok-clause-loaded g c =
       later = c.in-Ok.ensures.cause.later;
       failed = λ f. cc;
       holds = (
-        Does-alike c.add_read.result new old c.add_read.new.self (updated_by state at there.0 changes) (loaded state c.args.name c.args.header fetched) refl
+        Does-alike c.add_read.result old old c.add_read.new.self (updated_by state at there.0 changes) (loaded state c.args.name c.args.header fetched) refl
             (sym (loaded_known state c.args.name c.args.header fetched at there.0 here is))
             (c.add_read.ensures.does there.0 there.1 changes
             (rw (ap (λ (t : SourceType). t.kinds) typed, sym c.as_slice-in-Ok.ensures.value) c.read_changes-read.ensures.value)),
@@ -83,7 +81,7 @@ returns-in-Err-Failed-clause-loaded g c =
       later = c.in-Err-Failed.ensures.cause.later;
       failed = λ f. c.in-Err-Failed.ensures.cause.failed (ap Err c.in-Err-Failed.field-0-is);
       holds = (
-        Does-no_file c.args.self.now c.fetch.new.into c.requires.settled c.args.name c.args.header Failed c.in-Some.at told.result refusal.File (sym c.in-Some.ensures) (λ source. refl)
+        Does-no_file c.args.self.now c.args.name c.args.header Failed c.in-Some.at told.result refusal.File c.requires.settled (sym c.in-Some.ensures) (λ source. refl)
             told.ensures.reply told.ensures.effect,
         omega arith,
       );
@@ -98,7 +96,7 @@ returns-in-Err-Missing-clause-loaded g c =
       later = c.in-Err-Missing.ensures.cause.later;
       failed = λ f. cc;
       holds = (
-        Does-no_file c.args.self.now c.fetch.new.into c.requires.settled c.args.name c.args.header Missing c.in-Some.at told.result refusal.FileMissing (sym c.in-Some.ensures) (λ source. refl)
+        Does-no_file c.args.self.now c.args.name c.args.header Missing c.in-Some.at told.result refusal.FileMissing c.requires.settled (sym c.in-Some.ensures) (λ source. refl)
             told.ensures.reply told.ensures.effect,
         omega arith,
       );
@@ -113,13 +111,13 @@ returns-in-Err-Long-clause-loaded g c =
       later = c.in-Err-Long.ensures.cause.later;
       failed = λ f. cc;
       holds = (
-        Does-no_file c.args.self.now c.fetch.new.into c.requires.settled c.args.name c.args.header Long c.in-Some.at told.result refusal.FileLong (sym c.in-Some.ensures) (λ source. refl)
+        Does-no_file c.args.self.now c.args.name c.args.header Long c.in-Some.at told.result refusal.FileLong c.requires.settled (sym c.in-Some.ensures) (λ source. refl)
             told.ensures.reply told.ensures.effect,
         omega arith,
       );
     }
 
-pub returns-in-Err-Memory-clause-loaded : goal.returns-in-Err-Memory-clause-loaded
-returns-in-Err-Memory-clause-loaded g c =
+pub returns-clause-loaded : goal.returns-clause-loaded
+returns-clause-loaded g c =
     FetchesAnd-any _ _ _ _ _ c.in-Err-Memory.ensures.cause.later (λ fetched.
-    (record { same = refl; done = AreSettled-file c.args.self.now c.fetch.new.into c.requires.settled }, omega arith))
+    (record { same = refl; done = c.requires.settled }, omega arith))

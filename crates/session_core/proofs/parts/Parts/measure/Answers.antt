@@ -52,18 +52,18 @@ may_ask parts epsilon planned asks small held is =
     (subst (λ n. AreAsks n (charges_of epsilon planned.plan (types_of sources))) (length-map sources type_of) (charges-asked epsilon planned.plan (types_of sources) small held.holds.accepted))
 
 -- a row that can't be looked up is told
-pub returns-in-Some-row_fault-clause-responds : goal.returns-in-Some-row_fault-clause-responds
-returns-in-Some-row_fault-clause-responds g c =
+pub returns-in-Some-2-clause-responds : goal.returns-in-Some-2-clause-responds
+returns-in-Some-2-clause-responds g c =
     let parts = c.args.self.now in
     let state = state_of parts in
     let plans = parts.plans.items in
     let planned = c.index-planned.result.now in
     let lt : c.in-Some.at < length plans = subst (λ n. c.in-Some.at < n) (length-map plans plan_state) (place_within plan_name c.args.name (plan_states plans) c.in-Some.at (sym c.in-Some.ensures)) in
     let held = held_at parts c.requires.settled c.in-Some.at planned lt c.index-planned.ensures in
-    let told = c.refused-in-Some-row_fault in
-    Responds-answer _ _ parts told.result (reply.Refused c.in-Some-row_fault.why) (measured state c.args.name c.args.rows.now c.args.epsilon) c.requires.settled told.ensures.reply told.ensures.effect
+    let told = c.refused-in-Some-2 in
+    Responds-answer _ _ parts told.result (reply.Refused c.in-Some-2.why) (measured state c.args.name c.args.rows.now c.args.epsilon) c.requires.settled told.ensures.reply told.ensures.effect
     (measured_row state c.args.name c.args.rows.now c.args.epsilon c.in-Some.at (plan_state planned) (sym c.in-Some.ensures) (state_here plans c.in-Some.at planned lt c.index-planned.ensures)
-    c.in-Some-row_fault.why (ap (λ (kinds : List Kind). first_row_fault kinds [] 0 c.args.rows.now) (sym held.holds.cols) ∙ sym c.in-Some-row_fault.ensures))
+    c.in-Some-2.why (ap (λ (kinds : List Kind). first_row_fault kinds [] 0 c.args.rows.now) (sym held.holds.cols) ∙ sym (sym c.in-Some-2.is ∙ c.in_ok-why.ensures)))
 
 pub asks_at-requires-clause-few : goal.asks_at-requires-clause-few
 asks_at-requires-clause-few g c =
@@ -75,9 +75,14 @@ asks_at-requires-clause-few g c =
     subst (λ (asks : List Ask). All (λ (ask : Ask). ask.amount ≤ max_uses) asks) (sym (c.as_slice.ensures.value ∙ held.holds.uses))
     (few_uses planned.plan (types_of parts.sources.committed) held.holds.accepted)
 
+pub returns-in_err-why-clause-responds : goal.returns-in_err-why-clause-responds
+returns-in_err-why-clause-responds g c =
+    let p = err_from_is_err_and c.from_residual.result c.from_residual.ensures.1 in
+    rw (p.1) (Responds-none _ _ p.0 c.args.self.now _ c.requires.settled)
+
 pub returns-in_err-asks-clause-responds : goal.returns-in_err-asks-clause-responds
 returns-in_err-asks-clause-responds g c =
-    let p = err_from_is_err_and c.from_residual.result c.from_residual.ensures.1 in
+    let p = err_from_is_err_and c.from_residual-in_err-asks.result c.from_residual-in_err-asks.ensures.1 in
     rw (p.1) (Responds-none _ _ p.0 c.args.self.now _ c.requires.settled)
 
 pub can-requires : goal.can-requires
@@ -124,7 +129,7 @@ returns-in-Some-can-clause-responds g c =
     let told = c.refused-in-Some-can in
     Responds-answer _ _ parts told.result (reply.Refused why) (measured state c.args.name c.args.rows.now c.args.epsilon) c.requires.settled told.ensures.reply told.ensures.effect
     (measured_short state c.args.name c.args.rows.now c.args.epsilon c.in-Some.at (plan_state planned) (sym c.in-Some.ensures) (state_here plans c.in-Some.at planned lt c.index-planned.ensures)
-    why (ap (λ (kinds : List Kind). first_row_fault kinds [] 0 c.args.rows.now) (sym held.holds.cols) ∙ sym c.in_default-row_fault.ensures)
+    why (ap (λ (kinds : List Kind). first_row_fault kinds [] 0 c.args.rows.now) (sym held.holds.cols) ∙ sym (sym c.in_default-2.is ∙ c.in_ok-why.ensures))
     (ap (option_map (short_refusal sources)) found ∙ ap (λ (name : List ℕ). Some (refusal.Budget name short.left short.asked)) named))
 
 pub release-requires-clause-may_ask : goal.release-requires-clause-may_ask
@@ -151,7 +156,7 @@ returns-clause-responds g c =
     ap₂ (λ (book : List Budget) (asks : List Ask). first_short book asks) (sym c.book.ensures) (sym (c.as_slice-2.ensures.value ∙ asked)) ∙ sym c.in_default-can.ensures in
     subst (λ (s : Stage). Responds (g.N.Noise.given c.args.noise.now) (g.N.Noise.given c.release.new.noise) (g.N.Noise.faults c.args.noise.now) (g.N.Noise.faults c.release.new.noise) c.release.result parts parts s)
     (sym (measured_ready state c.args.name c.args.rows.now c.args.epsilon c.in-Some.at (plan_state planned) (sym c.in-Some.ensures) (state_here plans c.in-Some.at planned lt c.index-planned.ensures)
-    (ap (λ (kinds : List Kind). first_row_fault kinds [] 0 c.args.rows.now) (sym held.holds.cols) ∙ sym c.in_default-row_fault.ensures)
+    (ap (λ (kinds : List Kind). first_row_fault kinds [] 0 c.args.rows.now) (sym held.holds.cols) ∙ sym (sym c.in_default-2.is ∙ c.in_ok-why.ensures))
     (ap (option_map (short_refusal sources)) found)))
     c.release.ensures.responds
 
